@@ -1,7 +1,6 @@
 use crate::screen::Screen;
 use link_notices::{
-    PathLook, PathNotice, PathWatch, SourceNotice, SourceState, SourceWatch, Trouble,
-    trouble_of,
+    PathLook, PathNotice, PathWatch, SourceNotice, SourceState, SourceWatch, Trouble, trouble_of,
 };
 use live_machine::TURN;
 use night_lines::{Way, path_notice_line, source_notice_line};

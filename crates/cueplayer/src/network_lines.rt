@@ -2,7 +2,7 @@ use crate::screen::Screen;
 use arrayvec::ArrayVec;
 use cmd_words::Night;
 use network_tables::Route;
-use night_lines::{no_route_line, other_cards_line, sole_target, source_line, target_line};
+use night_lines::{no_route_line, origin_line, other_cards_line, sole_target, target_line};
 use system_devices::{MOST_SOURCES, Network, Path, is_multicast, read_cards, route_to};
 use targets::Targets;
 
@@ -17,7 +17,7 @@ pub fn tell_network(rt: &HostRuntime, night: &Night, network: &Network, screen: 
         } else {
             first_route(rt, network, place)
         };
-        let line = source_line(&source.card_address(), route);
+        let line = origin_line(&source.card_address(), route);
         screen.tell(line.as_str().as_bytes());
     }
     if !is_named && network.paths().iter().any(|path| is_multicast(path.host)) {

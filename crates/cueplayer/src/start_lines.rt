@@ -5,15 +5,16 @@ use crate::source_name::source_name;
 use cmd_explain::{seems, weigh};
 use cmd_faults::RunFault;
 use cmd_words::Night;
-use night_lines::{Transmission, counts_line, end_line, main_line, no_record_line, record_line};
-use night_lines::{sends_line, take_line};
+use night_lines::{
+    Transmission, contents_line, ending_line, main_line, no_record_line, record_line, sends_line,
+    take_line,
+};
+pub use night_lines::{MainNight as Followed, Place, Recording as Recorded};
 use patch::has_numbers;
 use show::Show;
 use show_reader::read_show;
 use std::env::{self, VarError};
 use system_devices::Network;
-
-pub use night_lines::{MainNight as Followed, Place, Recording as Recorded};
 
 // Set where control-C and a closed window are ignored.
 const INTERRUPTS: &str = "CUEPLAYER_INTERRUPTS";
@@ -39,7 +40,7 @@ pub fn tell_start(
     }
     let weight = weigh(rt.alloc(), show, &loaded)?;
     let is_interruptible = is_interruptible(rt)?;
-    let counts = counts_line(loaded.show.counts(), loaded.skipped, weight.notes);
+    let counts = contents_line(loaded.show.counts(), loaded.skipped, weight.notes);
     screen.tell(counts.as_str().as_bytes());
     if let Some(what) = seems(show)
         && loaded.show.counts().cues == 0
@@ -52,7 +53,7 @@ pub fn tell_start(
     tell_record(recorded, screen);
     match followed {
         Some(main) => tell_main(main, screen),
-        None => screen.tell(end_line(is_interruptible).as_bytes()),
+        None => screen.tell(ending_line(is_interruptible).as_bytes()),
     }
     Ok(())
 }
@@ -61,7 +62,7 @@ fn tell_sent(night: &Night, show: &Show, screen: &mut Screen) {
     let universes = show.universes();
     let sends = Transmission {
         base: night.base,
-        ordinals: universes.as_slice(),
+        ordinals: &universes,
         targets: &night.targets,
         priority: night.priority,
         cid: night.cid,

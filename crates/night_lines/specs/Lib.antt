@@ -1,5 +1,5 @@
 pub mod Clock
-pub mod Counts
+pub mod Contents
 pub mod Records
 pub mod Targets
 pub mod Sends

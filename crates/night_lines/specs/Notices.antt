@@ -14,7 +14,7 @@ use Rattle.link_notices.specs.declared.path.Trouble.TheVariants as trouble
 use Rattle.link_notices.specs.declared.source.SourceState.{SourceState}
 use Rattle.link_notices.specs.declared.source.SourceState.TheVariants.{Sends, NoLink, Down, Lost}
 use Rattle.night_lines.specs.Clock.{clock_text}
-use Rattle.night_lines.specs.Routes.{no_route_text, route_text, source_text}
+use Rattle.night_lines.specs.Routes.{no_route_text, route_text, origin_text}
 use Rattle.night_lines.specs.declared.path_notices.Way.{Way}
 
 -- a line that is told at a moment of the night
@@ -36,16 +36,16 @@ lost_text source =
     ++ codes ": nodes get nothing"
 
 -- a card has its address again, or its link
-abbrev pub again_text : CardAddress → SourceState → List ℕ
-again_text source Lost = source.card.bytes ++ codes " has " ++ host_text source.address
-again_text source was = codes "link " ++ source.card.bytes
+abbrev pub recovery_text : CardAddress → SourceState → List ℕ
+recovery_text source Lost = source.card.bytes ++ codes " has " ++ host_text source.address
+recovery_text source was = codes "link " ++ source.card.bytes
 
 -- how an address that packets come from is, behind how it was
 abbrev pub state_text : CardAddress → SourceState → SourceState → List ℕ
 state_text source was NoLink = no_link_text source.card.bytes
 state_text source was Down = down_text source.card.bytes
 state_text source was Lost = lost_text source
-state_text source was Sends = again_text source was
+state_text source was Sends = recovery_text source was
 
 -- the line of a notice about an address that packets come from
 abbrev pub source_notice_line : ℕ → CardAddress → SourceNotice → List ℕ
@@ -84,17 +84,17 @@ silent_text host (Some neighbor) =
     if bytes_eq neighbor host then host_silent_text host else gateway_silent_text neighbor host
 
 -- there is a route to a host now, from this source
-abbrev pub found_text : CardAddress → Option Entry → List ℕ
-found_text source route = source_text source ++ route_text source route
+abbrev pub new_route_text : CardAddress → Option Entry → List ℕ
+new_route_text source route = origin_text source ++ route_text source route
 
 -- somebody answers
-abbrev pub answer_text : List ℕ → List ℕ
-answer_text neighbor = host_text neighbor ++ codes " answers"
+abbrev pub answering_text : List ℕ → List ℕ
+answering_text neighbor = host_text neighbor ++ codes " answers"
 
 -- a trouble on the way to a host is over
 abbrev pub mended_text : Way → Option Entry → Trouble → CardAddress → List ℕ
-mended_text way route trouble.NoRouteYet source = found_text source route
-mended_text way route trouble.NoAnswer source = answer_text (unwrap_or way.neighbor way.host)
+mended_text way route trouble.NoRouteYet source = new_route_text source route
+mended_text way route trouble.NoAnswer source = answering_text (unwrap_or way.neighbor way.host)
 mended_text way route was source = leading_text way.host source.card.bytes
 
 -- the same, where the host has a source

@@ -38,5 +38,5 @@ line_of_all (first ∷ rest) = Some (line_of first rest)
 abbrev pub other_cards_line : List (List ℕ) → List Card → Option (List ℕ)
 other_cards_line sources cards = line_of_all (filter_map (other_card sources) cards)
 
-abbrev pub line_seen : ArrayString 2300 → List ℕ
-line_seen line = line.bytes
+abbrev pub other_cards_seen : ArrayString 2300 → List ℕ
+other_cards_seen line = line.bytes

@@ -49,7 +49,7 @@ take_line = codes
     "the main leads; take ends the following, and then go, back and end count here\n"
 
 -- what ends a night, by whether control-C does
-abbrev pub end_line : Bool → List ℕ
-end_line is_interruptible =
+abbrev pub ending_line : Bool → List ℕ
+ending_line is_interruptible =
     codes "end ends the night, leave leaves the light to others"
     ++ (if is_interruptible then [] else codes "; control-C does nothing") ++ codes "\n"

@@ -8,13 +8,13 @@ use Rattle.network_tables.specs.Texts.{host_text}
 use Rattle.link_notices.specs.declared.path.CardAddress.{CardAddress}
 
 -- an address that packets come from, and its card
-abbrev pub source_text : CardAddress → List ℕ
-source_text source =
+abbrev pub origin_text : CardAddress → List ℕ
+origin_text source =
     codes "from " ++ host_text source.address ++ codes " (" ++ source.card.bytes ++ codes ")"
 
 -- what a route leads to
-abbrev pub way_text : Entry → List ℕ
-way_text route =
+abbrev pub destination_text : Entry → List ℕ
+destination_text route =
     if width_of route == 0 then codes ", the default route"
     else codes ", the route to " ++ host_text (to_be_bytes w32 route.network)
     ++ codes "/" ++ decimal (width_of route)
@@ -23,11 +23,11 @@ way_text route =
 abbrev pub route_text : CardAddress → Option Entry → List ℕ
 route_text source None = []
 route_text source (Some route) =
-    if bytes_eq route.card source.card.bytes then way_text route else []
+    if bytes_eq route.card source.card.bytes then destination_text route else []
 
 -- a source, and the route by which a host is reached from it
-abbrev pub source_line : CardAddress → Option Entry → List ℕ
-source_line source route = source_text source ++ route_text source route ++ codes "\n"
+abbrev pub origin_line : CardAddress → Option Entry → List ℕ
+origin_line source route = origin_text source ++ route_text source route ++ codes "\n"
 
 -- that no route leads to a host
 abbrev pub no_route_text : List ℕ → List ℕ

@@ -23,7 +23,7 @@ universes_text base ordinals = universe_word ordinals ++ flat_map (number_text b
 -- which universes are sent where, with which priority, and by whom
 abbrev pub whole_line : Transmission → List ℕ
 whole_line sends =
-    codes "sends: " ++ universes_text sends.base sends.ordinals.now
+    codes "sends: " ++ universes_text sends.base sends.ordinals.now.items
     ++ targets_text sends.targets.now ++ codes ", priority " ++ decimal sends.priority
     ++ codes ", CID " ++ hyphenated_text lower sends.cid ++ codes ", name " ++ sends.name.now
     ++ codes "\n"
@@ -32,5 +32,5 @@ whole_line sends =
 abbrev pub sends_line : Transmission → Option (List ℕ)
 sends_line sends = if nat_le (length sends.name.now) 63 then Some (whole_line sends) else None
 
-abbrev pub line_seen : ArrayString 400 → List ℕ
-line_seen line = line.bytes
+abbrev pub sends_seen : ArrayString 400 → List ℕ
+sends_seen line = line.bytes

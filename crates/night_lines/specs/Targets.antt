@@ -6,7 +6,7 @@ use Rattle.targets.specs.Choice.{is_general}
 use Rattle.targets.specs.declared.target.Target.{Target}
 use Rattle.targets.specs.declared.target.Universes.{Universes}
 use Rattle.network_tables.specs.Texts.{host_text}
-use Rattle.night_lines.specs.Counts.{count_text}
+use Rattle.night_lines.specs.Contents.{count_text}
 
 -- the address of a target, which may stand for the multicast groups of all universes
 abbrev pub address_text : Target → List ℕ

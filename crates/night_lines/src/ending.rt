@@ -1,9 +1,9 @@
 ghost use Rattle.std.specs.Prelude.{◌≡◌};
-ghost use Rattle.night_lines.specs.Records.{end_line};
+ghost use Rattle.night_lines.specs.Records.{ending_line};
 
 /// The line of what ends a night, by whether control-C does.
-pub fn end_line(is_interruptible: bool) -> &'static str
-    ensures { result.now ≡ end_line is_interruptible }
+pub fn ending_line(is_interruptible: bool) -> &'static str
+    ensures { result.now ≡ ending_line is_interruptible }
 {
     if is_interruptible {
         "end ends the night, leave leaves the light to others\n"

@@ -5,7 +5,7 @@
 
 mod cid;
 mod clock;
-mod counts;
+mod contents;
 mod ending;
 mod follow;
 mod other_cards;
@@ -19,8 +19,8 @@ mod target_lines;
 
 use arrayvec::ArrayString;
 pub use clock::{ClockText, clock_text};
-pub use counts::{CountsLine, counts_line};
-pub use ending::end_line;
+pub use contents::{ContentsLine, contents_line};
+pub use ending::ending_line;
 pub use follow::{MainNight, main_line, take_line};
 pub use other_cards::{OtherCardsLine, other_cards_line};
 pub use path_notices::{Way, path_notice_line};
@@ -28,7 +28,7 @@ pub use place::Place;
 pub use record::{Recording, no_record_line, record_line};
 pub use sends::{Transmission, sends_line};
 pub use source_notices::{NoticeLine, source_notice_line};
-pub use sources::{NoRouteLine, SourceLine, no_route_line, source_line};
+pub use sources::{NoRouteLine, OriginLine, no_route_line, origin_line};
 pub use target_lines::{TargetLine, sole_target, target_line};
 
 /// A line of what is sent, recorded or followed: 16 universes, or a file's name of 256 bytes, have

@@ -17,7 +17,7 @@ struct OtherCard {
 /// The line of the cards with an address that packets come from none of, given the addresses that
 /// they come from; `None` where there is no other card.
 pub fn other_cards_line(cards: &Cards, sources: &[[u8; 4]]) -> Option<OtherCardsLine>
-    ensures { option_map spec.line_seen result
+    ensures { option_map spec.other_cards_seen result
         ≡ spec.other_cards_line sources.now cards.now.rows.items }
 {
     let others = others(cards, sources);

@@ -4,7 +4,7 @@ ghost use Rattle.night_lines.specs.Notices as spec;
 ghost use Rattle.night_lines.specs.Routes as routes;
 
 use crate::source_notices::{NoticeLine, line_at};
-use crate::sources::{no_route_text, route_text, source_text};
+use crate::sources::{no_route_text, origin_text, route_text};
 use arrayvec::ArrayString;
 use link_notices::{CardAddress, PathNotice, PathState, Trouble};
 use network_tables::{Route, host_text};
@@ -72,23 +72,23 @@ fn mended_text(way: &Way, was: Trouble, route: Option<Route>, source: &CardAddre
         ≡ spec.mended_text way.now (option_map route_seen route) was source.now }
 {
     match was {
-        Trouble::NoRouteYet => found_text(source, route),
-        Trouble::NoAnswer => answer_text(way.neighbor.unwrap_or(way.host)),
+        Trouble::NoRouteYet => new_route_text(source, route),
+        Trouble::NoAnswer => answering_text(way.neighbor.unwrap_or(way.host)),
         _ => leading_text(way.host, source.card.as_str()),
     }
 }
 
-fn found_text(source: &CardAddress, route: Option<Route>) -> WayText
-    ensures { result.bytes ≡ spec.found_text source.now (option_map route_seen route) }
+fn new_route_text(source: &CardAddress, route: Option<Route>) -> WayText
+    ensures { result.bytes ≡ spec.new_route_text source.now (option_map route_seen route) }
 {
     let mut text = WayText::new();
-    text.push_str(source_text(source).as_str());
+    text.push_str(origin_text(source).as_str());
     text.push_str(route_text(source, route).as_str());
     text
 }
 
-fn answer_text(neighbor: [u8; 4]) -> WayText
-    ensures { result.bytes ≡ spec.answer_text neighbor }
+fn answering_text(neighbor: [u8; 4]) -> WayText
+    ensures { result.bytes ≡ spec.answering_text neighbor }
 {
     let mut text = WayText::new();
     text.push_str(host_text(neighbor).as_str());

@@ -4,7 +4,7 @@ ghost use Rattle.night_lines.specs.Sends as spec;
 use crate::StartLine;
 use crate::cid::cid_text;
 use crate::target_lines::targets_text;
-use arrayvec::ArrayString;
+use arrayvec::{ArrayString, ArrayVec};
 use itoa::Buffer;
 use targets::Targets;
 
@@ -14,7 +14,7 @@ pub struct Transmission<'a> {
     /// The number of the first universe.
     pub base: u16,
     /// The universes in which a dimmer is patched, by their ordinals.
-    pub ordinals: &'a [u16],
+    pub ordinals: &'a ArrayVec<u16, 16>,
     pub targets: &'a Targets,
     pub priority: u8,
     pub cid: [u8; 16],
@@ -25,8 +25,7 @@ pub struct Transmission<'a> {
 /// The line of what a night sends; `None` where its name has more than 63 bytes, which no source
 /// has.
 pub fn sends_line(sends: &Transmission<'_>) -> Option<StartLine>
-    requires { length sends.now.ordinals.now ≤ 16 }
-    ensures { option_map spec.line_seen result ≡ spec.sends_line sends.now }
+    ensures { option_map spec.sends_seen result ≡ spec.sends_line sends.now }
 {
     if sends.name.len() > 63 {
         return None;
@@ -35,14 +34,13 @@ pub fn sends_line(sends: &Transmission<'_>) -> Option<StartLine>
 }
 
 fn whole_line(sends: &Transmission<'_>) -> StartLine
-    requires universes { length sends.now.ordinals.now ≤ 16 }
-    requires name { length sends.now.name.now ≤ 63 }
+    requires { length sends.now.name.now ≤ 63 }
     ensures { result.bytes ≡ spec.whole_line sends.now }
 {
     let mut line = StartLine::new();
     line.push_str("sends: ");
-    line.push_str(universe_word(sends.ordinals));
-    line.push_str(universe_numbers(sends.base, sends.ordinals).as_str());
+    line.push_str(universe_word(sends.ordinals.as_slice()));
+    line.push_str(universe_numbers(sends.base, sends.ordinals.as_slice()).as_str());
     line.push_str(targets_text(sends.targets).as_str());
     line.push_str(", priority ");
     line.push_str(Buffer::new().format(sends.priority));

@@ -38,7 +38,7 @@ fn state_text(source: &CardAddress, was: SourceState, is: SourceState) -> StateT
         SourceState::NoLink => no_link_text(source.card.as_str()),
         SourceState::Down => down_text(source.card.as_str()),
         SourceState::Lost => lost_text(source),
-        SourceState::Sends => again_text(source, was),
+        SourceState::Sends => recovery_text(source, was),
     }
 }
 
@@ -76,8 +76,8 @@ fn lost_text(source: &CardAddress) -> StateText
     text
 }
 
-fn again_text(source: &CardAddress, was: SourceState) -> StateText
-    ensures { result.bytes ≡ spec.again_text source.now was }
+fn recovery_text(source: &CardAddress, was: SourceState) -> StateText
+    ensures { result.bytes ≡ spec.recovery_text source.now was }
 {
     let mut text = StateText::new();
     match was {

@@ -8,25 +8,25 @@ use link_notices::CardAddress;
 use network_tables::{Route, host_text};
 
 /// The line of an address that packets come from: a card, a route and its width have room.
-pub type SourceLine = ArrayString<80>;
+pub type OriginLine = ArrayString<80>;
 
 /// The line of a host to which no route leads.
 pub type NoRouteLine = ArrayString<72>;
 
 /// The line of an address that packets come from and its card, and of the route by which a host is
 /// reached from there, where it leads by that card.
-pub fn source_line(source: &CardAddress, route: Option<Route>) -> SourceLine
-    ensures { result.bytes ≡ spec.source_line source.now (option_map route_seen route) }
+pub fn origin_line(source: &CardAddress, route: Option<Route>) -> OriginLine
+    ensures { result.bytes ≡ spec.origin_line source.now (option_map route_seen route) }
 {
-    let mut line = SourceLine::new();
-    line.push_str(source_text(source).as_str());
+    let mut line = OriginLine::new();
+    line.push_str(origin_text(source).as_str());
     line.push_str(route_text(source, route).as_str());
     line.push_str("\n");
     line
 }
 
-pub(crate) fn source_text(source: &CardAddress) -> ArrayString<38>
-    ensures { result.bytes ≡ spec.source_text source.now }
+pub(crate) fn origin_text(source: &CardAddress) -> ArrayString<38>
+    ensures { result.bytes ≡ spec.origin_text source.now }
 {
     let mut text = ArrayString::new();
     text.push_str("from ");
@@ -41,13 +41,13 @@ pub(crate) fn route_text(source: &CardAddress, route: Option<Route>) -> ArrayStr
     ensures { result.bytes ≡ spec.route_text source.now (option_map route_seen route) }
 {
     match route {
-        Some(route) if route.card.as_str() == source.card.as_str() => way_text(&route),
+        Some(route) if route.card.as_str() == source.card.as_str() => destination_text(&route),
         _ => ArrayString::new(),
     }
 }
 
-fn way_text(route: &Route) -> ArrayString<41>
-    ensures { result.bytes ≡ spec.way_text (route_seen route.now) }
+fn destination_text(route: &Route) -> ArrayString<41>
+    ensures { result.bytes ≡ spec.destination_text (route_seen route.now) }
 {
     let mut text = ArrayString::new();
     if route.width() == 0 {

@@ -1,7 +1,7 @@
 ghost use Rattle.std.specs.Prelude.{◌≡◌, ◌++◌, codes, decimal};
 ghost use Rattle.night_lines.specs.Targets as spec;
 
-use crate::counts::count_text;
+use crate::contents::count_text;
 use arrayvec::ArrayString;
 use itoa::Buffer;
 use network_tables::host_text;

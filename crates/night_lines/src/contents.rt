@@ -1,13 +1,13 @@
 ghost use Rattle.std.specs.Prelude.{◌≡◌, ◌≤◌, ◌++◌, codes, length};
-ghost use Rattle.night_lines.specs.Counts.{count_text, counts_line, doubts_text, notes_text};
-ghost use Rattle.night_lines.specs.Counts.{skipped_text, with_advice};
+ghost use Rattle.night_lines.specs.Contents.{count_text, contents_line, doubts_text, notes_text};
+ghost use Rattle.night_lines.specs.Contents.{skipped_lines_text, with_advice};
 
 use arrayvec::ArrayString;
 use itoa::Buffer;
 use show::Counts;
 
 /// The line of what a show has: six numbers of 20 digits have room.
-pub type CountsLine = ArrayString<280>;
+pub type ContentsLine = ArrayString<280>;
 
 // How many there are of what has a name of at most ten bytes.
 type CountText = ArrayString<32>;
@@ -16,10 +16,10 @@ type DoubtsText = ArrayString<110>;
 
 /// The line of what a show has, of how many of its lines are skipped, and of how many notes of
 /// weight there are on it.
-pub fn counts_line(counts: Counts, skipped: u32, notes: u64) -> CountsLine
-    ensures { result.bytes ≡ counts_line counts skipped notes }
+pub fn contents_line(counts: Counts, skipped: u32, notes: u64) -> ContentsLine
+    ensures { result.bytes ≡ contents_line counts skipped notes }
 {
-    let mut line = CountsLine::new();
+    let mut line = ContentsLine::new();
     line.push_str("show: ");
     line.push_str(count_text(u64::from(counts.cues), "cue").as_str());
     line.push_str(", ");
@@ -40,7 +40,7 @@ fn doubts_text(skipped: u32, notes: u64) -> DoubtsText
     match (skipped, notes) {
         (0, 0) => DoubtsText::new(),
         (0, _) => with_advice(notes_text(notes).as_str()),
-        (_, 0) => with_advice(skipped_text(skipped).as_str()),
+        (_, 0) => with_advice(skipped_lines_text(skipped).as_str()),
         _ => with_advice(both_text(skipped, notes).as_str()),
     }
 }
@@ -57,17 +57,17 @@ fn with_advice(doubts: &str) -> DoubtsText
 }
 
 fn both_text(skipped: u32, notes: u64) -> ArrayString<84>
-    ensures { result.bytes ≡ skipped_text skipped ++ codes ", " ++ notes_text notes }
+    ensures { result.bytes ≡ skipped_lines_text skipped ++ codes ", " ++ notes_text notes }
 {
     let mut text = ArrayString::new();
-    text.push_str(skipped_text(skipped).as_str());
+    text.push_str(skipped_lines_text(skipped).as_str());
     text.push_str(", ");
     text.push_str(notes_text(notes).as_str());
     text
 }
 
-fn skipped_text(lines: u32) -> ArrayString<40>
-    ensures { result.bytes ≡ skipped_text lines }
+fn skipped_lines_text(lines: u32) -> ArrayString<40>
+    ensures { result.bytes ≡ skipped_lines_text lines }
 {
     let mut text = ArrayString::new();
     text.push_str(count_text(u64::from(lines), "line").as_str());

@@ -8,8 +8,8 @@ count_text count name =
     decimal count ++ codes " " ++ name ++ (if count == 1 then [] else codes "s")
 
 -- how many lines of a show are skipped
-abbrev pub skipped_text : ℕ → List ℕ
-skipped_text lines = count_text lines (codes "line") ++ codes " skipped"
+abbrev pub skipped_lines_text : ℕ → List ℕ
+skipped_lines_text lines = count_text lines (codes "line") ++ codes " skipped"
 
 -- how many notes of weight there are on a show
 abbrev pub notes_text : ℕ → List ℕ
@@ -24,12 +24,12 @@ abbrev pub doubts_text : ℕ → ℕ → List ℕ
 doubts_text lines notes =
     if lines == 0
     then (if notes == 0 then [] else with_advice (notes_text notes))
-    else if notes == 0 then with_advice (skipped_text lines)
-    else with_advice (skipped_text lines ++ codes ", " ++ notes_text notes)
+    else if notes == 0 then with_advice (skipped_lines_text lines)
+    else with_advice (skipped_lines_text lines ++ codes ", " ++ notes_text notes)
 
 -- what a show has, and what of it may mean something else than is played
-abbrev pub counts_line : Counts → ℕ → ℕ → List ℕ
-counts_line counts lines notes =
+abbrev pub contents_line : Counts → ℕ → ℕ → List ℕ
+contents_line counts lines notes =
     codes "show: " ++ count_text counts.cues (codes "cue")
     ++ codes ", " ++ count_text counts.subs (codes "submaster")
     ++ codes ", " ++ count_text counts.groups (codes "group")
