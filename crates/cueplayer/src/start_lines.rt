@@ -6,10 +6,9 @@ use cmd_explain::{seems, weigh};
 use cmd_faults::RunFault;
 use cmd_words::Night;
 use night_lines::{
-    Transmission, contents_line, ending_line, main_line, no_record_line, record_line, sends_line,
-    take_line,
+    MainNight, Recording, Transmission, contents_line, ending_line, main_line, no_record_line,
+    record_line, sends_line, take_line,
 };
-pub use night_lines::{MainNight as Followed, Place, Recording as Recorded};
 use patch::has_numbers;
 use show::Show;
 use show_reader::read_show;
@@ -19,46 +18,50 @@ use system_devices::Network;
 // Set where control-C and a closed window are ignored.
 const INTERRUPTS: &str = "CUEPLAYER_INTERRUPTS";
 
-/// Tells what a night plays, where it is sent, where it is recorded, whom it follows and what ends
-/// it: a line each.
-///
-/// # Errors
-///
-/// `Show`, `Base` or `Memory`. Then nothing is told.
-pub fn tell_start(
-    rt: &HostRuntime,
-    night: &Night,
-    show: &[u8],
-    network: &Network,
-    recorded: Option<Recorded<'_>>,
-    followed: Option<Followed<'_>>,
-    screen: &mut Screen,
-) -> Result<(), RunFault> {
-    let loaded = read_show(rt.alloc(), show)?;
-    if !has_numbers(&loaded.show, night.base) {
-        return Err(RunFault::Base);
-    }
-    let weight = weigh(rt.alloc(), show, &loaded)?;
-    let is_interruptible = is_interruptible(rt)?;
-    let counts = contents_line(loaded.show.counts(), loaded.skipped, weight.notes);
-    screen.tell(counts.as_str().as_bytes());
-    if let Some(what) = seems(show)
-        && loaded.show.counts().cues == 0
-    {
-        screen.tell(of_seeming(what).as_slice());
-        screen.tell(b"\n");
-    }
-    tell_sent(night, &loaded.show, screen);
-    tell_network(rt, night, network, screen);
-    tell_record(recorded, screen);
-    match followed {
-        Some(main) => tell_main(main, screen),
-        None => screen.tell(ending_line(is_interruptible).as_bytes()),
-    }
-    Ok(())
+/// What is told of a night at its start: a line each.
+#[derive(Clone, Copy)]
+pub struct StartLines<'a> {
+    pub night: &'a Night,
+    pub show: &'a [u8],
+    pub network: &'a Network,
+    pub recorded: Option<Recording<'a>>,
+    pub followed: Option<MainNight<'a>>,
 }
 
-fn tell_sent(night: &Night, show: &Show, screen: &mut Screen) {
+impl StartLines<'_> {
+    /// Tells what the night plays, where it is sent, where it is recorded, whom it follows and what
+    /// ends it.
+    ///
+    /// # Errors
+    ///
+    /// `Show`, `Base` or `Memory`. Then nothing is told.
+    pub fn tell(&self, rt: &HostRuntime, screen: &mut Screen) -> Result<(), RunFault> {
+        let loaded = read_show(rt.alloc(), self.show)?;
+        if !has_numbers(&loaded.show, self.night.base) {
+            return Err(RunFault::Base);
+        }
+        let weight = weigh(rt.alloc(), self.show, &loaded)?;
+        let is_interruptible = is_interruptible(rt)?;
+        let contents = contents_line(loaded.show.counts(), loaded.skipped, weight.notes);
+        screen.tell(contents.as_str().as_bytes());
+        if let Some(what) = seems(self.show)
+            && loaded.show.counts().cues == 0
+        {
+            screen.tell(of_seeming(what).as_slice());
+            screen.tell(b"\n");
+        }
+        tell_sends(self.night, &loaded.show, screen);
+        tell_network(rt, self.night, self.network, screen);
+        tell_record(self.recorded, screen);
+        match self.followed {
+            Some(main) => tell_main(main, screen),
+            None => screen.tell(ending_line(is_interruptible).as_bytes()),
+        }
+        Ok(())
+    }
+}
+
+fn tell_sends(night: &Night, show: &Show, screen: &mut Screen) {
     let universes = show.universes();
     let sends = Transmission {
         base: night.base,
@@ -73,22 +76,22 @@ fn tell_sent(night: &Night, show: &Show, screen: &mut Screen) {
     }
 }
 
-fn tell_record(recorded: Option<Recorded<'_>>, screen: &mut Screen) {
-    let Some(recorded) = recorded else {
+fn tell_record(recording: Option<Recording<'_>>, screen: &mut Screen) {
+    let Some(recording) = recording else {
         screen.tell(no_record_line().as_bytes());
         return;
     };
-    let shown = of_name(recorded.file);
-    let line = record_line(&Recorded {
+    let shown = of_name(recording.file);
+    let line = record_line(&Recording {
         file: shown.as_str(),
-        ..recorded
+        ..recording
     });
     screen.tell(line.as_str().as_bytes());
 }
 
-fn tell_main(main: Followed<'_>, screen: &mut Screen) {
+fn tell_main(main: MainNight<'_>, screen: &mut Screen) {
     let shown = of_name(main.file);
-    let line = main_line(&Followed {
+    let line = main_line(&MainNight {
         file: shown.as_str(),
         ..main
     });
