@@ -1,5 +1,5 @@
 -- What is told of the targets of a night.
-use Rattle.std.specs.Prelude.{ℕ, Bool, ◌==◌, if◌then◌else◌, List, [], ◌∷◌, ◌++◌, length}
+use Rattle.std.specs.Prelude.{ℕ, ◌==◌, if◌then◌else◌, List, [], ◌∷◌, ◌++◌, length}
 use Rattle.std.specs.Prelude.{codes, decimal, Option, Some, None}
 use Rattle.targets.specs.Address.{is_groups}
 use Rattle.targets.specs.Choice.{is_general}
