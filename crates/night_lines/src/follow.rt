@@ -17,7 +17,7 @@ pub struct MainNight<'a> {
     pub place: Place,
 }
 
-/// The line of the main that a night follows.
+/// The line of the main that a night follows, by a record whose name is shown in at most 256 bytes.
 pub fn main_line(main: &MainNight<'_>) -> StartLine
     requires { length main.now.file.now ≤ 256 }
     ensures { result.bytes ≡ main_line main.now }

@@ -18,7 +18,7 @@ pub struct Recording<'a> {
     pub is_cut: bool,
 }
 
-/// The line of where a night is recorded.
+/// The line of where a night is recorded, in a file whose name is shown in at most 256 bytes.
 pub fn record_line(recording: &Recording<'_>) -> StartLine
     requires { length recording.now.file.now ≤ 256 }
     ensures { result.bytes ≡ record_line recording.now }
