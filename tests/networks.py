@@ -165,7 +165,7 @@ class Venue:
             node.begin()
         if has_addresses:
             self.give_addresses()
-            wait_for(self._is_up, "the console's cards are up")
+            wait_for(self.is_up, "the console's cards are up")
 
     def plug(self, card: str, node: Node) -> None:
         """Plugs in a card of the console, with a cable to a node."""
@@ -182,10 +182,10 @@ class Venue:
             f"route add default via {OFFICE}",
         )
 
-    def _is_up(self) -> bool:
-        """Whether both cards say that their links are there: some time behind the links."""
+    def is_up(self, cards: int = 2) -> bool:
+        """Whether so many cards say that their links are there: some time behind the links."""
         words = ["ip", "-n", self.console.name, "-brief", "link", "show", "up", "type", "veth"]
-        return subprocess.run(words, capture_output=True, text=True).stdout.count(" UP ") == 2
+        return subprocess.run(words, capture_output=True, text=True).stdout.count(" UP ") == cards
 
     def run(self, *words: object, stdin: bytes = b"") -> subprocess.CompletedProcess[bytes]:
         """A run of the program on the console's machine, to its end."""

@@ -7,8 +7,9 @@ import uuid
 from contextlib import contextmanager
 
 from machine import in_time, took
-from networks import EVERYDAY, LIT, OFFICE, STAGE, NetworkTest, Night, Venue, universes
+from networks import EVERYDAY, LIT, OFFICE, STAGE, NetworkTest, Night, Node, Venue, universes
 from program import CID, LIVE_NAME, FolderTest, packet, text
+from tooling import wait_for
 from wire import SLOT_1
 
 SHOW = text("CUE 1", "UP 0", "CHAN 1@H80", "PATCH 1 1<1@FL 1<513@FL")
@@ -80,6 +81,7 @@ class Ways(CardsTest):
             self.one_elsewhere,
             self.several_of_one,
             self.each_its_own,
+            self.one_of_four_cards,
             self.plain_packet,
             self.named_packet,
         )
@@ -125,6 +127,23 @@ class Ways(CardsTest):
         words = ("--to", f"1={OFFICE}", "--to", f"2-2={STAGE}")
         office, stage = self.sent(Venue(kept), *words)
         self.assertEqual(({1}, {2}), (universes(office), universes(stage)))
+
+    def one_of_four_cards(self, kept):
+        """Of three cards at one network each is known, by its name and by its address."""
+        venue = Venue(kept)
+        more = {"second": Node(kept, STAGE), "third": Node(kept, STAGE)}
+        addresses = {"second": "10.101.2.11", "third": "10.101.2.12"}
+        for card, node in more.items():
+            venue.plug(card, node)
+            node.begin()
+            venue.console.ip(f"addr add {addresses[card]}/24 dev {card}", f"link set {card} up")
+        wait_for(lambda: venue.is_up(4), "the further cards are up")
+        for card, address in addresses.items():
+            for word in (card, address):
+                office, stage = self.sent(venue, "--to", MULTICAST, "--interface", word)
+                came = more[card].came()
+                self.assertEqual(([], [], groups(1, 2)), (office, stage, hosts(came)))
+                self.assertEqual({address}, {each.source for each in came})
 
     def plain_packet(self, kept):
         """The time to live is 1 where none is named."""
@@ -206,6 +225,8 @@ class Watch(CardsTest):
             self.node_that_refuses,
             self.no_such_node,
             self.no_such_gateway,
+            self.other_gateway,
+            self.cable_out_of_no_node,
             self.one_of_two_cards,
             self.backup,
         )
@@ -221,6 +242,12 @@ class Watch(CardsTest):
         """A `where` tells what is wrong once more."""
         night.ask()
         night.told(told)
+
+    def assertStillTold(self, night, told):
+        """Some looks later nothing else was told, and a `where` tells what is wrong once more."""
+        time.sleep(DURING)
+        night.ask()
+        self.assertTrue(night.err.next().endswith(told))
 
     def assertDark(self, venue, night):
         """Nothing comes to the stage or to the office, whatever is typed."""
@@ -387,6 +414,31 @@ class Watch(CardsTest):
             pass
         venue.stage.ip("addr add 10.101.2.254/24 dev port")
         night.told("10.101.2.254 answers")
+
+    def other_gateway(self, kept):
+        """The route leads by another gateway then: that it answers is told once it does."""
+        venue = Venue(kept)
+        venue.console.ip("route add 10.101.9.0/24 via 10.101.2.254 dev lit")
+        night = Night(kept, venue, self.show, "--to", "10.101.9.7")
+        nothing = "nothing has that address; check the gateway to 10.101.9.7"
+        told = f"no answer from 10.101.2.{{}}: {nothing}"
+        with self.soon(night, told.format(254)):
+            pass
+        venue.console.ip("route replace 10.101.9.0/24 via 10.101.2.253 dev lit")
+        self.assertStillTold(night, told.format(253))
+        venue.stage.ip("addr add 10.101.2.253/24 dev port")
+        night.told("10.101.2.253 answers")
+
+    def cable_out_of_no_node(self, kept):
+        """A link that is back says of no node that it answers."""
+        venue, night = self.night(kept, "--to", "10.101.2.77")
+        with self.soon(night, self.NOBODY):
+            pass
+        with self.soon(night, self.NO_LINK):
+            venue.stage.ip("link set port down")
+        with self.soon(night, "link lit"):
+            venue.stage.ip("link set port up")
+        self.assertStillTold(night, self.NOBODY)
 
     def backup(self, kept):
         """A night that follows another one watches its own card."""

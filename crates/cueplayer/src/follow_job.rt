@@ -3,7 +3,7 @@ ghost use Rattle.cueplayer.specs.Opening.{CanFollow};
 
 use crate::failure::{Failure, JobFault};
 use crate::jobs::{link_of, night_end, run_end};
-use crate::link_watch::LinkWatch;
+use crate::link_watch::LinkTeller;
 use crate::live_devices::{Beginning, LiveDevices, now};
 use crate::live_job::{MainWords, NightEnd, Playbill, place_of};
 use crate::main_record::MainRecord;
@@ -84,7 +84,7 @@ fn follow_main<F: Fader>(
         mut booth,
         ..
     } = devices.begin(rt, bill, place_of(night))?;
-    booth.watch(LinkWatch::new(&network));
+    booth.watch(LinkTeller::new(rt, &network));
     let mut leader = MainRecord::new(rt, booth, words, lines, now(rt)?);
     // What stands in the record already is sent to nobody.
     follow(night, &mut leader, &mut Silent)?;

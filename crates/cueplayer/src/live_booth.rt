@@ -1,6 +1,6 @@
 ghost use Rattle.std.specs.Prelude.{[]};
 
-use crate::link_watch::LinkWatch;
+use crate::link_watch::LinkTeller;
 use crate::remark::{Remark, push_shown};
 use crate::screen::Screen;
 use arrayvec::ArrayVec;
@@ -34,7 +34,7 @@ pub struct LiveBooth<'a> {
     input_ended: Option<u64>,
     record: Record,
     screen: Screen,
-    watch: Option<LinkWatch<'a>>,
+    watch: Option<LinkTeller<'a>>,
 }
 
 impl<'a> LiveBooth<'a> {
@@ -58,7 +58,7 @@ impl<'a> LiveBooth<'a> {
     }
 
     /// From now on the cards, addresses and routes are watched.
-    pub fn watch(&mut self, watch: LinkWatch<'a>) {
+    pub fn watch(&mut self, watch: LinkTeller<'a>) {
         self.watch = Some(watch);
     }
 

@@ -4,7 +4,7 @@ ghost use Rattle.cueplayer.specs.Opening.{IsPlayable};
 use crate::failure::{Failure, JobFault};
 use crate::follow_job::play_following;
 use crate::jobs::{identity, link_of, night_end};
-use crate::link_watch::LinkWatch;
+use crate::link_watch::LinkTeller;
 use crate::live_devices::{Beginning, LiveDevices};
 use crate::live_name::live_name;
 use crate::opening::open_night;
@@ -119,7 +119,7 @@ pub fn lead<F: Fader>(
         mut booth,
         passed,
     } = devices.begin(rt, bill, place_of(night))?;
-    booth.watch(LinkWatch::new(&network));
+    booth.watch(LinkTeller::new(rt, &network));
     let mut link = link_of(rt, &network, bill.night);
     let answer = night.live(passed, &mut booth, &mut link);
     booth.finish();

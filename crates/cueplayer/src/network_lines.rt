@@ -1,9 +1,10 @@
 use crate::screen::Screen;
 use arrayvec::ArrayVec;
 use cmd_words::Night;
+use link_notices::MOST_SOURCES;
 use network_tables::Route;
 use night_lines::{no_route_line, origin_line, other_cards_line, sole_target, target_line};
-use system_devices::{MOST_SOURCES, Network, Path, is_multicast, read_cards, route_to};
+use system_devices::{Network, Path, is_multicast, read_cards, route_to};
 use targets::Targets;
 
 /// Tells each target, where there are more than one for all universes; the addresses that packets

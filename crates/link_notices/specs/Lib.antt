@@ -4,3 +4,5 @@ pub mod Offers
 pub mod Same
 pub mod Told
 pub mod Nights
+pub mod Looks
+pub mod Watches

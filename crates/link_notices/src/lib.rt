@@ -7,6 +7,10 @@
 #![tactic(auto)]
 
 mod laws;
+mod link_watch;
+mod look;
+pub mod memory;
+mod night_network;
 mod notice;
 mod path;
 mod sending;
@@ -14,7 +18,10 @@ mod source;
 mod watch;
 
 pub use laws::{paths_law, sources_law};
-pub use notice::{PathNotice, SourceNotice};
+pub use link_watch::LinkWatch;
+pub use look::{HostPath, MOST_SOURCES, NetworkLook};
+pub use night_network::NightNetwork;
+pub use notice::{LinkNotice, LinkNotices, PathNotice, SourceNotice};
 pub use path::{CardAddress, PathState, Trouble, trouble_of};
 pub use sending::Sending;
 pub use source::{SourceState, source_state};

@@ -1,4 +1,5 @@
 use crate::{SourceState, Trouble};
+use arrayvec::ArrayVec;
 
 /// How an address of this machine was told to be, and how it is.
 #[derive(Clone, Copy, Debug, PartialEq, Eq)]
@@ -12,4 +13,29 @@ pub struct SourceNotice {
 pub struct PathNotice {
     pub was: Trouble,
     pub is: Trouble,
+}
+
+/// What is to be told of a network.
+#[derive(Clone, Copy, Debug, PartialEq, Eq)]
+pub enum LinkNotice {
+    /// Of the address at this place among those that packets come from.
+    Source { place: usize, notice: SourceNotice },
+    /// Of the way to the host at this place.
+    Path { place: usize, notice: PathNotice },
+}
+
+/// What is to be told after a look, the first first: there is room for each address and each way.
+pub type LinkNotices = ArrayVec<LinkNotice, 72>;
+
+// What fills the room that is left.
+impl Default for LinkNotice {
+    fn default() -> Self {
+        LinkNotice::Source {
+            place: 0,
+            notice: SourceNotice {
+                was: SourceState::Sends,
+                is: SourceState::Sends,
+            },
+        }
+    }
 }

@@ -1,3 +1,4 @@
 pub mod FrontFields
 pub mod Widest
 pub mod Names
+pub mod Silent

@@ -6,9 +6,12 @@ use Rattle.std.specs.Prelude.{Option, Some, None, if◌then◌else◌}
 use Rattle.std.specs.Int.{to_be_bytes, w32}
 use Rattle.std.specs.List.{list_all, list_any}
 use Rattle.network_tables.specs.Routes.{Entry, leads_to, route_seen, width_of}
+use Rattle.network_tables.specs.Tables.{has_address, of_address}
 use Rattle.network_tables.specs.declared.holder.Holder.{Holder}
 use Rattle.network_tables.specs.declared.holder.Holder.TheVariants as holder
 use Rattle.network_tables.specs.declared.route.Route.{Route}
+use Rattle.network_tables.specs.declared.table.Card.{Card}
+use Rattle.arrayvec.specs.declared.array_string.ArrayString.{ArrayString}
 
 -- there is no gateway
 abbrev pub is_direct : Option (List ℕ) → Bool
@@ -35,6 +38,23 @@ holder_among [] = holder.Unknown
 holder_among (only ∷ []) = holder.Card only.card
 holder_among (first ∷ other ∷ []) = holder.OneOf first.network first.card (Some other.card)
 holder_among (first ∷ other ∷ third ∷ more) = holder.OneOf first.network first.card None
+
+-- the card of a row, where it is known
+abbrev pub row_card : Option Card → Option (ArrayString 15)
+row_card None = None
+row_card (Some card) = card.name
+
+-- of several cards at one network the one that an address is of: the one by which the system sends
+-- from it to a host there; where it tells that of none of them, the first, if it sends from the
+-- address where no card is named, else the other
+abbrev pub card_or : Option (ArrayString 15) → Option (ArrayString 15) → Option (ArrayString 15)
+card_or (Some card) others = Some card
+card_or None others = others
+
+abbrev pub card_among : List ℕ → List Card → Option (List ℕ) → ArrayString 15
+    → Option (ArrayString 15) → Option (ArrayString 15)
+card_among address asked sends_from first other = card_or (row_card (of_address address asked))
+    (if has_address address sends_from then Some first else other)
 
 -- 127.0.0.0/8 is the machine's own loop (RFC 1122, 3.2.1.3)
 abbrev pub holder_of : List ℕ → List Route → Holder

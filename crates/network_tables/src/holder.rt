@@ -1,8 +1,9 @@
 ghost use Rattle.std.specs.Prelude.{◌≡◌, IfNone, IfSome, take};
 ghost use Rattle.network_tables.specs.Holders.{HasNoHostBeside, IsHostBeside, holder_of};
-ghost use Rattle.network_tables.specs.Holders.{is_among, is_widest, networks_of};
+ghost use Rattle.network_tables.specs.Holders.{card_among, is_among, is_widest, networks_of};
 
 use crate::route::{CardName, Route};
+use crate::table::Cards;
 use arrayvec::ArrayVec;
 
 // The first number of the addresses of the machine's own loop.
@@ -18,8 +19,8 @@ pub enum Holder {
     Loop,
     /// This card.
     Card(CardName),
-    /// One of several cards at one network: the first, where the system sends from the address to
-    /// a host there; else the other, where there are two.
+    /// One of several cards at one network: the first, and the other where there are two. Which
+    /// one it is, [`card_among`] says.
     OneOf {
         network: u32,
         first: CardName,
@@ -52,6 +53,30 @@ pub fn holder_of(address: [u8; 4], networks: &[Route]) -> Holder
     }
 }
 
+/// Of several cards at one network the one that an address is of, as far as the system tells: that
+/// which has it in the table of the cards that were asked, each with the address that the system
+/// sends from by it to a host there; else the first, where it sends from the address by any; else
+/// the other.
+pub fn card_among(
+    address: [u8; 4],
+    asked: &Cards,
+    sends_from: Option<[u8; 4]>,
+    first: CardName,
+    other: Option<CardName>,
+) -> Option<CardName>
+    ensures { result ≡ card_among address asked.now.rows.items sends_from first other }
+{
+    if let Some(card) = asked.of_address(address)
+        && card.name.is_some()
+    {
+        return card.name;
+    }
+    match sends_from {
+        Some(source) if source == address => Some(first),
+        _ => other,
+    }
+}
+
 // The first three networks of an address.
 fn networks_of(address: [u8; 4], networks: &[Route]) -> ArrayVec<Route, 3>
     ensures { result.items ≡ take 3 (networks_of address networks.now) }
@@ -65,7 +90,9 @@ fn networks_of(address: [u8; 4], networks: &[Route]) -> ArrayVec<Route, 3>
     found
 }
 
-fn is_widest(address: [u8; 4], networks: &[Route], network: &Route) -> bool
+/// Whether a network is one of those at which the card of an address may be: it holds the address,
+/// and of those that do none looks at more bits.
+pub fn is_widest(address: [u8; 4], networks: &[Route], network: &Route) -> bool
     ensures { result ≡ is_widest address networks.now network.now }
 {
     network.leads_to(address)

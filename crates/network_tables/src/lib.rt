@@ -18,9 +18,9 @@ mod tree;
 
 pub use card::{CardState, card_state};
 pub use choice::{CardRefusal, CardWord, choose};
-pub use holder::{Holder, holder_of, host_beside};
-pub use laws::best_route_law;
-pub use neighbor::{Neighbor, SILENCE, silence_after};
+pub use holder::{Holder, card_among, holder_of, host_beside, is_widest};
+pub use laws::{best_route_law, silence_law};
+pub use neighbor::{Neighbor, SILENCE, silence_after, silence_toward};
 pub use route::{CardName, Route, better};
 pub use table::{Card, Cards, MOST_CARDS, row_name};
 pub use texts::{CardText, HostText, card_text, host_text};

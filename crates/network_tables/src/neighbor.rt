@@ -1,6 +1,7 @@
 ghost use Rattle.std.specs.Prelude.{◌≡◌, IfNone, IfSome};
 ghost use Rattle.network_tables.specs.Fields.{field};
-ghost use Rattle.network_tables.specs.Neighbors.{IsNeighbor, silence_after};
+ghost use Rattle.network_tables.specs.Neighbors.{IsNeighbor, silence_after, silence_by};
+ghost use Rattle.network_tables.specs.Neighbors.{silence_toward};
 
 use crate::fields::{field, flags};
 use std::net::Ipv4Addr;
@@ -33,6 +34,30 @@ impl Neighbor {
             }),
             _ => None,
         }
+    }
+
+    /// At how many looks one behind the other the first taker of a way did not answer, after a look
+    /// that found this row. It says something of this taker alone, and where the card has a link.
+    pub fn silence_of(&self, taker: Option<[u8; 4]>, has_link: bool, silence: u8) -> u8
+        ensures { result ≡ silence_by self.now taker has_link silence }
+    {
+        match taker {
+            Some(taker) if has_link && taker == self.address.octets() => {
+                silence_after(silence, self.has_answered)
+            }
+            _ => silence,
+        }
+    }
+}
+
+/// The same, where who takes the packets of the way first is this other machine from now on: it is
+/// silent until it is known to answer. `None` is this machine itself.
+pub fn silence_toward(taker: Option<[u8; 4]>, silence: u8) -> u8
+    ensures { result ≡ silence_toward taker silence }
+{
+    match taker {
+        Some(_) => silence,
+        None => 0,
     }
 }
 

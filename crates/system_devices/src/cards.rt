@@ -1,9 +1,10 @@
 use crate::routes::{Routes, route_to, source_to};
 use crate::system_lines::{SystemLine, SystemLines, first_line};
+use crate::tied_socket::source_by;
 use arrayvec::{ArrayString, ArrayVec};
 use network_tables::{
-    CardName, CardState, Cards, Holder, MOST_CARDS, OwnAddresses, Route, TreeLine, holder_of,
-    host_beside, row_name,
+    CardName, CardState, Cards, Holder, MOST_CARDS, OwnAddresses, Route, TreeLine, card_among,
+    holder_of, host_beside, is_widest, row_name,
 };
 use std::fmt::Write;
 
@@ -66,8 +67,7 @@ fn read_networks(rt: &HostRuntime) -> ArrayVec<Route, MOST_CARDS> {
     networks
 }
 
-// The card that has this address of the machine's own. At a network with several cards the system
-// sends by the first.
+// The card that has this address of the machine's own.
 fn card_of(
     rt: &HostRuntime,
     address: [u8; 4],
@@ -82,15 +82,25 @@ fn card_of(
             first,
             other,
         } => {
-            let sends_from = source_to(rt, host_beside(network, own)?);
-            if sends_from == Some(address) {
-                Some(first)
-            } else {
-                other
-            }
+            let host = host_beside(network, own)?;
+            let asked = ask_cards(rt, address, host, networks);
+            card_among(address, &asked, source_to(rt, host), first, other)
         }
         Holder::Unknown => None,
     }
+}
+
+// The cards at the network of an address, each with the address that the system sends from by it to
+// a host there.
+fn ask_cards(rt: &HostRuntime, address: [u8; 4], host: [u8; 4], networks: &[Route]) -> Cards {
+    let mut asked = Cards::new();
+    for network in networks {
+        if is_widest(address, networks, network) {
+            let source = source_by(rt, network.card.as_str(), host);
+            asked.add(Some(network.card), source);
+        }
+    }
+    asked
 }
 
 /// The card of an address of this machine that packets to a host come from.

@@ -1,6 +1,6 @@
 use crate::network::Path;
 use crate::system_lines::SystemLines;
-use network_tables::{Neighbor, silence_after};
+use network_tables::Neighbor;
 
 const NEIGHBORS: &str = "/proc/net/arp";
 
@@ -34,9 +34,7 @@ impl Neighbors {
                 return;
             };
             for path in &mut *paths {
-                if path.neighbor == Some(neighbor.address.octets()) {
-                    path.silence = silence_after(path.silence, neighbor.has_answered);
-                }
+                path.silence = neighbor.silence_of(path.neighbor, path.has_link, path.silence);
             }
         }
     }

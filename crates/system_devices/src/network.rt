@@ -5,15 +5,14 @@ use crate::socket::{AddressText, SocketFault, bind, send_whole, text_of};
 use crate::tied_socket::TiedSocket;
 use arrayvec::ArrayVec;
 use devices::LinkFault;
-use link_notices::{CardAddress, PathState, Sending, SourceState, source_state};
-use network_tables::CardName;
+use link_notices::{
+    CardAddress, HostPath, MOST_SOURCES, NetworkLook, PathState, Sending, SourceState, source_state,
+};
+use network_tables::{CardName, silence_toward};
 use std::io::ErrorKind;
 use std::net::{IpAddr, SocketAddr, UdpSocket};
 use std::time::Instant;
 use targets::{Address, MOST_TARGETS, Targets};
-
-/// The most addresses of this machine that a night sends from.
-pub const MOST_SOURCES: usize = 8;
 
 /// The host that stands for the multicast groups of all universes.
 pub const GROUPS: [u8; 4] = [239, 255, 0, 0];
@@ -103,6 +102,9 @@ pub struct Path {
     /// At so many looks one behind the other it did not answer.
     pub silence: u8,
 
+    /// The card of its source has a link.
+    pub has_link: bool,
+
     // What the route to it gave at the last look.
     route: Option<CardAddress>,
 
@@ -183,10 +185,27 @@ impl Network {
         Some((text_of(address), kind))
     }
 
+    /// What is known of the addresses and the ways, as the last look found them.
+    pub fn found(&self) -> NetworkLook {
+        let mut found = NetworkLook::default();
+        for source in self.sources.as_slice() {
+            let _ = found.sources.try_push(source.state);
+        }
+        for path in self.paths.as_slice() {
+            let _ = found.paths.try_push(HostPath {
+                source: path.source,
+                state: path.state,
+                silence: path.silence,
+            });
+        }
+        found
+    }
+
     // How this host is reached for the first time.
     fn path_to(&mut self, rt: &HostRuntime, host: [u8; 4]) -> Result<Path, SocketFault> {
         let mut path = Path {
             host,
+            has_link: true,
             ..Path::default()
         };
         let route = source_to(rt, host);
@@ -238,7 +257,7 @@ impl Network {
         {
             let neighbor = neighbor_to(rt, path.host, address);
             if path.neighbor != neighbor {
-                path.silence = 0;
+                path.silence = silence_toward(neighbor, path.silence);
             }
             path.neighbor = neighbor;
         }
@@ -283,9 +302,8 @@ impl Network {
                 }
             }
             Some(source) => {
-                if source.state != SourceState::Sends {
-                    path.silence = 0;
-                } else if !is_multicast(path.host) {
+                path.has_link = source.state == SourceState::Sends;
+                if path.has_link && !is_multicast(path.host) {
                     let route = source_to(rt, path.host);
                     self.look_along(rt, path, route);
                 }

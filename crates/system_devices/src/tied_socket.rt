@@ -16,20 +16,9 @@ pub struct TiedSocket {
 
 impl TiedSocket {
     /// The socket of an address and its card; `None` where the system ties none.
-    ///
-    /// The library has no option for it. But a socket that is to be connected to a link-local
-    /// address is tied to the card that this address names (ipv6(7), `sin6_scope_id`), also where
-    /// the connection fails, as from an address of IPv4. Whether it is tied shows at once: another
-    /// card is then refused for that reason.
     pub fn open(rt: &HostRuntime, address: [u8; 4], card: &str, waits: bool) -> Option<TiedSocket> {
         let index = card_index(rt, card)?;
-        let other = if index == 1 { 2 } else { 1 };
-        let socket = UdpSocket::bind(rt, mapped(address, 0)).ok()?;
-        let first = socket.connect(neighbor_by(index)).err()?.kind();
-        let second = socket.connect(neighbor_by(other)).err()?.kind();
-        if first == ErrorKind::InvalidInput || second != ErrorKind::InvalidInput {
-            return None;
-        }
+        let socket = tie(rt, address, index)?;
         socket.set_nonblocking(!waits).ok()?;
         Some(TiedSocket { socket, index })
     }
@@ -46,6 +35,35 @@ impl TiedSocket {
     /// The system's reason.
     pub fn send(&self, bytes: &[u8], host: [u8; 4], port: u16) -> Result<(), ErrorKind> {
         send_whole(&self.socket, bytes, mapped(host, port))
+    }
+}
+
+// A socket at an address that sends by the card of this number alone; `None` where the system ties
+// none.
+//
+// The library has no option for it. But a socket that is to be connected to a link-local address is
+// tied to the card that this address names (ipv6(7), `sin6_scope_id`), also where the connection
+// fails, as from an address of IPv4. Whether it is tied shows at once: another card is then refused
+// for that reason.
+fn tie(rt: &HostRuntime, address: [u8; 4], index: u32) -> Option<UdpSocket> {
+    let other = if index == 1 { 2 } else { 1 };
+    let socket = UdpSocket::bind(rt, mapped(address, 0)).ok()?;
+    let first = socket.connect(neighbor_by(index)).err()?.kind();
+    let second = socket.connect(neighbor_by(other)).err()?.kind();
+    if first == ErrorKind::InvalidInput || second != ErrorKind::InvalidInput {
+        return None;
+    }
+    Some(socket)
+}
+
+/// The address that a packet to this host would come from by this card; `None` where the system
+/// does not tell. No packet is sent.
+pub fn source_by(rt: &HostRuntime, card: &str, host: [u8; 4]) -> Option<[u8; 4]> {
+    let socket = tie(rt, [0, 0, 0, 0], card_index(rt, card)?)?;
+    socket.connect(mapped(host, PORT)).ok()?;
+    match socket.local_addr() {
+        Ok(SocketAddr::V6(address)) => Some(address.ip().to_ipv4_mapped()?.octets()),
+        _ => None,
     }
 }
 
