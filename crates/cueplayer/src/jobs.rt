@@ -2,14 +2,14 @@ ghost use Rattle.std.specs.Prelude.{◌≡◌, ◌≤◌, ◌<◌, ◌^◌, All,
 ghost use Rattle.cmd_words.specs.Job.{IsJobInRange};
 ghost use Rattle.cueplayer.specs.Source.{source_name};
 
-use crate::cards::{check_targets, open_network};
+use crate::cards::open_network;
 use crate::device_failure::of_socket;
 use crate::failure::{Failure, JobFault};
 use crate::live_job::{LiveWords, MainWords, play_live};
-use crate::live_name::{OldRecord, live_name};
-use crate::reading::{file_text, script_text, show_text};
+use crate::reading::{file_text, script_text, show_text, suitable_show};
 use crate::remark::{of_device, of_seeming, of_weight, plain};
 use crate::source_name::source_name;
+use crate::standard::ask_for_standard;
 use cmd_cues::{cues, cues_json};
 use cmd_explain::{Weight, explain, seems, weigh};
 use cmd_faults::RunFault;
@@ -24,8 +24,7 @@ use sacn_packet::SourceName;
 use sacn_source::Identity;
 use show_reader::read_show;
 use std::cell::RefCell;
-use std::io::{BufWriter, ErrorKind};
-use std::os::fd::AsFd;
+use std::io::{BufWriter, ErrorKind, Stdout};
 use system_devices::{
     CardSender, CidLock, Network, ReceivingSocket, SystemInput, SystemOutput, WatchedOutput,
 };
@@ -44,11 +43,11 @@ pub fn run(rt: &HostRuntime, job: Job) -> Result<(), JobFault>
 {
     match job {
         Job::Check { show, is_strict } => check_show(rt, show.as_str(), is_strict),
-        Job::Look { show, cue, cid } => ends(look_at(rt, show.as_str(), cue, cid)),
-        Job::Explain { show } => ends(explain_show(rt, show.as_str())),
-        Job::Cues { show, is_json } => ends(show_cues(rt, show.as_str(), is_json)),
-        Job::Slots { show, cue, base } => ends(show_slots(rt, show.as_str(), cue, base)),
-        Job::Play(night) => play_lines(rt, &night, identity(&night)?),
+        Job::Look { show, cue, cid } => Ok(look_at(rt, show.as_str(), cue, cid)?),
+        Job::Explain { show } => Ok(explain_show(rt, show.as_str())?),
+        Job::Cues { show, is_json } => Ok(show_cues(rt, show.as_str(), is_json)?),
+        Job::Slots { show, cue, base } => Ok(show_slots(rt, show.as_str(), cue, base)?),
+        Job::Play(night) => play_lines(rt, &night),
         Job::Live {
             night,
             record_file,
@@ -59,77 +58,36 @@ pub fn run(rt: &HostRuntime, job: Job) -> Result<(), JobFault>
             patience,
             ends_with_input,
         } => {
-            let mut night = night;
-            let record_file = record_file.as_ref().map(Name::as_str);
-            if night.name.is_none() {
-                night.name = Some(name_of_night(rt, record_file, resumes, is_spare)?);
-            }
             let words = LiveWords {
-                night: &night,
-                record_file,
+                record_file: record_file.as_ref().map(Name::as_str),
                 resumes,
                 is_spare,
                 start,
-                main: main_words(&main_file, patience),
+                main: main_file.as_ref().map(|file| MainWords {
+                    file: file.as_str(),
+                    patience,
+                }),
                 ends_with_input,
             };
-            play_live(rt, words, identity(&night)?)
+            play_live(rt, night, words)
         }
-        Job::Rehearse { show, script } => ends(rehearse(rt, show.as_str(), script.as_str())),
+        Job::Rehearse { show, script } => Ok(rehearse(rt, show.as_str(), script.as_str())?),
         Job::Listen {
             at,
             universe,
             count,
-        } => ends(listen_at(rt, at, universe, count)),
-        Job::Watch { universes } => ends(watch_lines(rt, universes.as_slice())),
-    }
-}
-
-// The name of who sends in a live night that was given none.
-fn name_of_night(
-    rt: &HostRuntime,
-    record_file: Option<&str>,
-    resumes: bool,
-    is_spare: bool,
-) -> Result<Name, Failure> {
-    let record = match record_file {
-        Some(file) if resumes => Some(OldRecord {
-            file,
-            is_played: is_spare,
-        }),
-        _ => None,
-    };
-    match live_name(rt, record) {
-        Ok(name) => Ok(name),
-        Err(_) => Err(Failure::from(RunFault::Memory)),
-    }
-}
-
-fn main_words(file: &Option<Name>, patience: u32) -> Option<MainWords<'_>> {
-    let file = file.as_ref()?;
-    Some(MainWords {
-        file: file.as_str(),
-        patience,
-    })
-}
-
-fn ends(answer: Result<(), Failure>) -> Result<(), JobFault> {
-    match answer {
-        Ok(()) => Ok(()),
-        Err(failure) => Err(JobFault::Run(failure)),
+        } => Ok(listen_at(rt, at, universe, count)?),
+        Job::Watch { universes } => Ok(watch_lines(rt, universes.as_slice())?),
     }
 }
 
 /// How a run over a show ended, and what is told of it.
-pub fn ended(
+pub fn run_end(
     answer: Result<(), RunFault>,
     show: &[u8],
     output: Option<ErrorKind>,
 ) -> Result<(), Failure> {
-    match answer {
-        Ok(()) => Ok(()),
-        Err(fault) => Err(Failure::of_run(fault, show, output)),
-    }
+    answer.map_err(|fault| Failure::of_run(fault, show, output))
 }
 
 fn check_show(rt: &HostRuntime, show: &str, is_strict: bool) -> Result<(), JobFault> {
@@ -142,7 +100,7 @@ fn check_show(rt: &HostRuntime, show: &str, is_strict: bool) -> Result<(), JobFa
     };
     let mut out = SystemOutput::new(rt.stdout());
     let answer = check(rt.alloc(), text, &mut out);
-    ended(answer, text, out.failure())?;
+    run_end(answer, text, out.failure())?;
     tell_seeming(rt, text);
     match weight {
         Some(weight) if !weight.is_nothing() => Err(JobFault::Doubts(of_weight(weight))),
@@ -155,26 +113,17 @@ fn weight_of(rt: &HostRuntime, text: &[u8]) -> Result<Weight, Failure>
     requires { length text.now < 2 ^ 32 }
 {
     let loaded = read_show(rt.alloc(), text).map_err(|fault| Failure::of_show(fault, text))?;
-    match weigh(rt.alloc(), text, &loaded) {
-        Ok(weight) => Ok(weight),
-        Err(_) => Err(Failure::from(RunFault::Memory)),
-    }
+    weigh(rt.alloc(), text, &loaded).map_err(|_| Failure::from(RunFault::Memory))
 }
 
 // Tells what the file of a show without cues seems to be, where that is no text.
 fn tell_seeming(rt: &HostRuntime, text: &[u8]) {
     if let Some(what) = seems(text)
-        && has_no_cue(rt, text)
+        && let Ok(loaded) = read_show(rt.alloc(), text)
+        && loaded.show.counts().cues == 0
     {
         tell(rt, of_seeming(what).as_slice());
         tell(rt, b"\n");
-    }
-}
-
-fn has_no_cue(rt: &HostRuntime, text: &[u8]) -> bool {
-    match read_show(rt.alloc(), text) {
-        Ok(loaded) => loaded.show.counts().cues == 0,
-        Err(_) => false,
     }
 }
 
@@ -182,7 +131,7 @@ fn explain_show(rt: &HostRuntime, show: &str) -> Result<(), Failure> {
     let text = show_text(rt, show)?;
     let mut out = SystemOutput::new(rt.stdout());
     let answer = explain(rt.alloc(), text.as_slice(), &mut out);
-    ended(answer, text.as_slice(), out.failure())
+    run_end(answer, text.as_slice(), out.failure())
 }
 
 fn show_cues(rt: &HostRuntime, show: &str, is_json: bool) -> Result<(), Failure> {
@@ -193,34 +142,40 @@ fn show_cues(rt: &HostRuntime, show: &str, is_json: bool) -> Result<(), Failure>
     } else {
         cues(rt.alloc(), text.as_slice(), &mut out)
     };
-    ended(answer, text.as_slice(), out.failure())
+    run_end(answer, text.as_slice(), out.failure())
 }
 
 fn look_at(rt: &HostRuntime, show: &str, cue: u32, cid: [u8; 16]) -> Result<(), Failure> {
     let text = show_text(rt, show)?;
     let mut out = WatchedOutput::new(SystemOutput::new(rt.stdout()));
     let answer = look(rt.alloc(), text.as_slice(), cue, cid, &mut out);
-    ended(answer, text.as_slice(), out.failure())?;
-    if out.is_empty() {
-        tell(rt, b"no dimmer is patched\n");
-    }
-    Ok(())
+    slots_end(rt, answer, text.as_slice(), &out)
 }
 
 fn show_slots(rt: &HostRuntime, show: &str, cue: u32, base: u16) -> Result<(), Failure> {
     let text = show_text(rt, show)?;
     let mut out = WatchedOutput::new(SystemOutput::new(rt.stdout()));
     let answer = slots(rt.alloc(), text.as_slice(), cue, base, &mut out);
-    ended(answer, text.as_slice(), out.failure())?;
-    // A show prints no universe exactly where none of its dimmers is patched.
+    slots_end(rt, answer, text.as_slice(), &out)
+}
+
+// How a run that prints the levels of a cue ended. It prints none exactly where no dimmer of the
+// show is patched.
+fn slots_end(
+    rt: &HostRuntime,
+    answer: Result<(), RunFault>,
+    show: &[u8],
+    out: &WatchedOutput<SystemOutput<Stdout>>,
+) -> Result<(), Failure> {
+    run_end(answer, show, out.failure())?;
     if out.is_empty() {
         tell(rt, b"no dimmer is patched\n");
     }
     Ok(())
 }
 
-// Tells this on standard error.
-fn tell(rt: &HostRuntime, text: &[u8]) {
+/// Tells this on standard error.
+pub fn tell(rt: &HostRuntime, text: &[u8]) {
     let _ = SystemOutput::new(rt.stderr()).write(text);
 }
 
@@ -254,25 +209,25 @@ fn watch_lines(rt: &HostRuntime, universes: &[u16]) -> Result<(), Failure>
 {
     let mut input = SystemInput::new(rt.stdin());
     let mut out = SystemOutput::new(rt.stdout());
-    match watch(rt.alloc(), &mut input, universes, &mut out) {
-        Ok(()) => Ok(()),
-        Err(fault) => Err(Failure::of_watch(fault, out.failure())),
-    }
+    let answer = watch(rt.alloc(), &mut input, universes, &mut out);
+    answer.map_err(|fault| Failure::of_watch(fault, out.failure()))
 }
 
 // Plays the lines of standard input.
-fn play_lines(rt: &HostRuntime, night: &Night, source: Identity) -> Result<(), JobFault> {
+fn play_lines(rt: &HostRuntime, night: &Night) -> Result<(), JobFault>
+    requires { night.now.priority ≤ 200 }
+{
+    let source = identity(night)?;
     ask_for_standard(rt)?;
-    let text = file_text(rt, night.show.as_str())?;
+    let text = suitable_show(rt, night)?;
     let text = text.as_slice();
-    check_targets(rt, night, text)?;
     tell_seeming(rt, text);
     let lock = CidLock::take(rt, night.cid).map_err(Failure::from)?;
     if lock.is_none() {
         tell(rt, NO_LOCK);
     }
     let network = RefCell::new(open_network(rt, night, false)?);
-    let mut link = TargetLink::new(CardSender::new(rt, &network), night.targets.copy());
+    let mut link = link_of(rt, &network, night);
     let mut input = SystemInput::new(rt.stdin());
     let mut out = SystemOutput::new(rt.stdout());
     let setup = Setup {
@@ -281,27 +236,20 @@ fn play_lines(rt: &HostRuntime, night: &Night, source: Identity) -> Result<(), J
         base: night.base,
     };
     let answer = play::<StepFader, _, _, _>(rt.alloc(), setup, &mut input, &mut link, &mut out);
-    Ok(played(answer, text, &network, out.failure())?)
+    Ok(night_end(answer, text, &network, out.failure())?)
 }
 
-// Standard input, output and error have to be open. They are asked for before anything is opened,
-// which would get the descriptor of what is closed.
-fn ask_for_standard(rt: &HostRuntime) -> Result<(), Failure> {
-    ask_for(&rt.stdin(), "standard input")?;
-    ask_for(&rt.stdout(), "standard output")?;
-    ask_for(&rt.stderr(), "standard error")
-}
-
-/// Whether what has this name is open.
-pub fn ask_for<F: AsFd>(file: &F, name: &str) -> Result<(), Failure> {
-    match file.as_fd().try_clone_to_owned() {
-        Ok(_) => Ok(()),
-        Err(error) => Err(Failure::of_device(name, error.kind())),
-    }
+/// What sends the packets of a night.
+pub fn link_of<'a>(
+    rt: &'a HostRuntime,
+    network: &'a RefCell<Network>,
+    night: &Night,
+) -> TargetLink<CardSender<'a>> {
+    TargetLink::new(CardSender::new(rt, network), night.targets.copy())
 }
 
 /// How a night ended. Of packets that were lost the last is told.
-pub fn played(
+pub fn night_end(
     answer: Result<(), RunFault>,
     show: &[u8],
     network: &RefCell<Network>,
@@ -316,7 +264,7 @@ pub fn played(
             fault,
             remark: of_device(address.as_str(), kind),
         }),
-        (answer, _) => ended(answer, show, output),
+        (answer, _) => run_end(answer, show, output),
     }
 }
 
@@ -330,18 +278,18 @@ fn rehearse(rt: &HostRuntime, show: &str, script: &str) -> Result<(), Failure> {
         return Err(Failure::from(RunFault::Memory));
     };
     let mut out = SystemOutput::new(buffer);
-    match rehearse_text::<StepFader, _>(rt.alloc(), show, script, &mut out) {
-        Ok(()) => {}
-        Err(fault) => return Err(Failure::of_rehearsal(fault, show, script, out.failure())),
-    }
-    match out.flush() {
-        Ok(()) => Ok(()),
-        Err(_) => Err(Failure::of_run(RunFault::Device, show, out.failure())),
-    }
+    let answer = rehearse_text::<StepFader, _>(rt.alloc(), show, script, &mut out);
+    answer.map_err(|fault| Failure::of_rehearsal(fault, show, script, out.failure()))?;
+    let flushed = out.flush();
+    flushed.map_err(|_| Failure::of_run(RunFault::Device, show, out.failure()))
 }
 
-// Who sends.
-fn identity(night: &Night) -> Result<Identity, JobFault>
+/// Who sends.
+///
+/// # Errors
+///
+/// `Words` where the name is too long, or has a zero.
+pub fn identity(night: &Night) -> Result<Identity, JobFault>
     requires { night.now.priority ≤ 200 }
     ensures { IfOk result (λ source. source ≡ record {
       cid = night.now.cid;

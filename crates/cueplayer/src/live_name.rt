@@ -1,31 +1,21 @@
+use crate::live_job::LiveWords;
+use crate::reading::{HEAD_PATIENCE, record_lines};
 use crate::source_name::name_on;
 use cmd_words::Name;
 use night_record::{HeadName, RecordHead};
 use std::alloc::AllocError;
 use std::fs::metadata;
 use std::str;
-use system_devices::{AppendedLines, machine_name};
+use system_devices::machine_name;
 
-// The record of a night that another process plays has its head within so many milliseconds.
-const PATIENCE: u64 = 1000;
-
-/// The record of a night that goes on.
-#[derive(Clone, Copy)]
-pub struct OldRecord<'a> {
-    pub file: &'a str,
-    /// Another process plays the night.
-    pub is_played: bool,
-}
-
-/// The name of who sends in a live night, where none was given: that of the night that goes on, so
-/// that another machine can take it up; else the program's and this machine's.
+/// The name of who sends in a live night of these words, where none was given: that of the night
+/// that goes on, so that another machine can take it up; else the program's and this machine's.
 ///
 /// # Errors
 ///
 /// Where memory was refused.
-pub fn live_name(rt: &HostRuntime, record: Option<OldRecord<'_>>) -> Result<Name, AllocError> {
-    if let Some(record) = record
-        && let Some(name) = name_in(rt, record)
+pub fn live_name(rt: &HostRuntime, words: LiveWords<'_>) -> Result<Name, AllocError> {
+    if let Some(name) = recorded_name(rt, words)
         && let Ok(name) = str::from_utf8(name.as_bytes())
     {
         return Name::new(rt.alloc(), name);
@@ -37,14 +27,14 @@ pub fn live_name(rt: &HostRuntime, record: Option<OldRecord<'_>>) -> Result<Name
     )
 }
 
-// The name in the head of a record, where it has one: whether it suits the night is looked at
-// later.
-fn name_in(rt: &HostRuntime, record: OldRecord<'_>) -> Option<HeadName> {
-    if !metadata(rt, record.file).ok()?.is_file() {
+// The name in the head of the record that is to go on, where it has one: whether it suits the night
+// is looked at later.
+fn recorded_name(rt: &HostRuntime, words: LiveWords<'_>) -> Option<HeadName> {
+    let file = words.record_file?;
+    if !words.resumes || !metadata(rt, file).ok()?.is_file() {
         return None;
     }
-    let mut lines = AppendedLines::open(rt, record.file).ok()??;
-    let patience = if record.is_played { PATIENCE } else { 0 };
-    let head = RecordHead::read(lines.first_two(rt, patience)?.as_slice())?;
-    Some(head.name)
+    let patience = if words.is_spare { HEAD_PATIENCE } else { 0 };
+    let (head, _) = record_lines(rt, file, patience).ok()??;
+    Some(RecordHead::read(head.as_slice())?.name)
 }

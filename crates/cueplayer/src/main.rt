@@ -8,6 +8,7 @@ mod follow_job;
 mod jobs;
 mod link_watch;
 mod live_booth;
+mod live_devices;
 mod live_job;
 mod live_name;
 mod main_record;
@@ -20,15 +21,15 @@ mod remark;
 mod screen;
 mod source_name;
 mod spare_job;
+mod standard;
 mod start_lines;
 mod words;
 
 use clap::Error;
 use cmd_faults::{RunFault, exit_status};
 use cmd_words::{WordsFault, read_words};
-use devices::Output;
 use failure::{Failure, JobFault};
-use jobs::run;
+use jobs::{run, tell};
 use refusal::Refusal;
 use remark::{Remark, of_misfit, plain};
 use std::env;
@@ -46,70 +47,51 @@ const SHOW_REFUSED: u8 = 3;
 // The exit status of a record that is refused.
 const RECORD_REFUSED: u8 = 4;
 
-// Tells on standard error how the run ended: the line of its fault, and then what is told of it.
-fn report(rt: &HostRuntime, answer: &Result<(), Failure>) -> u8 {
-    let mut err = SystemOutput::new(rt.stderr());
-    match answer {
-        Ok(()) => exit_status(&Ok(()), &mut err),
-        Err(failure) => {
-            let status = exit_status(&Err(failure.fault), &mut err);
-            tell(rt, &failure.remark);
-            status
-        }
-    }
+// Tells on standard error why a run did not end well: the line of its fault, and then what is told
+// of it.
+fn report(rt: &HostRuntime, failure: &Failure) -> u8 {
+    let status = exit_status(&Err(failure.fault), &mut SystemOutput::new(rt.stderr()));
+    tell_remark(rt, &failure.remark);
+    status
 }
 
-fn refuse(rt: &HostRuntime, refusal: &Refusal) -> u8 {
-    let _ = SystemOutput::new(rt.stderr()).write(refusal.line.as_str().as_bytes());
-    tell(rt, &refusal.remark);
-    RECORD_REFUSED
+// Tells on standard error what is refused, and then why.
+fn refuse(rt: &HostRuntime, line: &[u8], remark: &Remark, status: u8) -> u8 {
+    tell(rt, line);
+    tell_remark(rt, remark);
+    status
+}
+
+fn refuse_words(rt: &HostRuntime, remark: &Remark) -> u8 {
+    refuse(rt, b"words refused\n", remark, REFUSED)
 }
 
 // Tells a remark on a line of its own.
-fn tell(rt: &HostRuntime, remark: &Remark) {
+fn tell_remark(rt: &HostRuntime, remark: &Remark) {
     if !remark.is_empty() {
-        let mut err = SystemOutput::new(rt.stderr());
-        let _ = err.write(remark.as_slice());
-        let _ = err.write(b"\n");
+        tell(rt, remark.as_slice());
+        tell(rt, b"\n");
     }
-}
-
-// A show is refused by a strict check.
-fn doubt(rt: &HostRuntime, remark: &Remark) -> u8 {
-    let _ = SystemOutput::new(rt.stderr()).write(b"show: Doubtful\n");
-    tell(rt, remark);
-    SHOW_REFUSED
-}
-
-fn unfit(rt: &HostRuntime, remark: &Remark) -> u8 {
-    let _ = SystemOutput::new(rt.stderr()).write(b"words refused\n");
-    tell(rt, remark);
-    REFUSED
 }
 
 // Shows the text of an error: help on standard output, any other on standard error.
 fn show_error(rt: &HostRuntime, error: &Error) -> u8 {
-    let printed = error.print(rt);
-    if error.use_stderr() {
-        REFUSED
-    } else {
-        report(
-            rt,
-            &printed.map_err(|error| Failure::of_device("standard output", error.kind())),
-        )
+    match error.print(rt) {
+        _ if error.use_stderr() => REFUSED,
+        Ok(()) => 0,
+        Err(fault) => report(rt, &Failure::of_device("standard output", fault.kind())),
     }
 }
 
 fn status(rt: &HostRuntime) -> u8 {
+    let memory = Failure::from(RunFault::Memory);
     let words = match env::args(&(UserWords::new(rt), rt.alloc())) {
         Ok(words) => words,
-        Err(error) if error.kind() == ErrorKind::OutOfMemory => {
-            return report(rt, &Err(Failure::from(RunFault::Memory)));
-        }
-        Err(_) => return unfit(rt, &plain("the words are text in UTF-8")),
+        Err(error) if error.kind() == ErrorKind::OutOfMemory => return report(rt, &memory),
+        Err(_) => return refuse_words(rt, &plain("the words are text in UTF-8")),
     };
     let Ok(words) = words.collect::<Vec<String>>(rt.alloc()) else {
-        return report(rt, &Err(Failure::from(RunFault::Memory)));
+        return report(rt, &memory);
     };
     let fault = match read_words(rt.alloc(), words.as_slice()) {
         Ok(job) => return status_of(rt, run(rt, job)),
@@ -118,19 +100,26 @@ fn status(rt: &HostRuntime) -> u8 {
     remove_unused_record(rt, None);
     match fault {
         WordsFault::Refused(error) => show_error(rt, &error),
-        WordsFault::Unfit(misfit) => unfit(rt, &of_misfit(&misfit)),
-        WordsFault::Memory => report(rt, &Err(Failure::from(RunFault::Memory))),
+        WordsFault::Unfit(misfit) => refuse_words(rt, &of_misfit(&misfit)),
+        WordsFault::Memory => report(rt, &memory),
     }
 }
 
 // Tells how a job ended, and answers the exit status.
 fn status_of(rt: &HostRuntime, answer: Result<(), JobFault>) -> u8 {
     match answer {
-        Ok(()) => report(rt, &Ok(())),
-        Err(JobFault::Run(failure)) => report(rt, &Err(failure)),
-        Err(JobFault::Record(refusal)) => refuse(rt, &refusal),
-        Err(JobFault::Doubts(remark)) => doubt(rt, &remark),
-        Err(JobFault::Words(remark)) => unfit(rt, &remark),
+        Ok(()) => 0,
+        Err(JobFault::Run(failure)) => report(rt, &failure),
+        Err(JobFault::Record(refusal)) => {
+            refuse(
+                rt,
+                refusal.line.as_str().as_bytes(),
+                &refusal.remark,
+                RECORD_REFUSED,
+            )
+        }
+        Err(JobFault::Doubts(remark)) => refuse(rt, b"show: Doubtful\n", &remark, SHOW_REFUSED),
+        Err(JobFault::Words(remark)) => refuse_words(rt, &remark),
     }
 }
 

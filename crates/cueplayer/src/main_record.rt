@@ -2,11 +2,11 @@ ghost use Rattle.std.specs.Prelude.{[]};
 
 use crate::live_booth::LiveBooth;
 use crate::live_job::MainWords;
-use crate::start_lines::clock_text;
 use arrayvec::{ArrayString, ArrayVec};
 use cmd_live::{Led, MainConsole};
 use live_input::InputLine;
 use live_machine::Came;
+use night_lines::clock_text;
 use night_record::{Asked, NightLines, is_silent, leading_moment, silence_of};
 use std::fmt::Write;
 use std::time::Instant;

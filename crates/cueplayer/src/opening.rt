@@ -5,7 +5,7 @@ ghost use Rattle.cmd_live.specs.Stands.{StandsFor};
 ghost use Rattle.cueplayer.specs.Opening.{CanFollow, IsPlayable};
 
 use crate::failure::{Failure, JobFault};
-use crate::live_job::LiveWords;
+use crate::live_job::{LiveWords, Playbill};
 use crate::refusal::Refusal;
 use crate::source_name::source_name;
 use arrayvec::ArrayString;
@@ -14,7 +14,6 @@ use cmd_live::{Night, Silent};
 use fade::Fader;
 use jiff::Timestamp;
 use night_record::{HeadLines, HeadName, RecordHead, RecordOpening, TakenUp, Unfit};
-use sacn_source::Identity;
 use sha2::{Digest, Sha256};
 use std::fmt::Write;
 
@@ -35,11 +34,7 @@ pub struct Opening {
 impl Opening {
     /// Without a record.
     pub fn none() -> Opening {
-        Opening {
-            head: None,
-            from: 0,
-            to: 0,
-        }
+        Opening::behind(0)
     }
 
     /// Behind so many bytes of a record, which has lines of a night.
@@ -56,13 +51,8 @@ impl Opening {
     /// # Errors
     ///
     /// Where that is of another night, or of none; or where the clock cannot be read.
-    pub fn of(
-        rt: &HostRuntime,
-        words: LiveWords<'_>,
-        show: &[u8],
-        text: &[u8],
-    ) -> Result<Opening, JobFault> {
-        let night = head_of(rt, words, show)?;
+    pub fn of(rt: &HostRuntime, bill: &Playbill<'_, '_>, text: &[u8]) -> Result<Opening, JobFault> {
+        let night = head_of(rt, bill)?;
         match RecordOpening::of(&night, text) {
             Ok(RecordOpening::Begins) => Ok(Opening {
                 head: Some(night.lines()),
@@ -97,67 +87,56 @@ pub fn refusal_of(unfit: &Unfit, night: &RecordHead) -> Refusal {
     }
 }
 
-/// Opens the night over a show, behind the lines of a record's text where it goes on.
+/// Opens a night, behind the lines of a record's text where it goes on.
 ///
 /// # Errors
 ///
 /// Where the show, the cue to start in or a line of the record is refused, or the night has ended.
 pub fn open_night<F: Fader>(
     rt: &HostRuntime,
-    words: LiveWords<'_>,
-    show: &[u8],
-    source: Identity,
-    record: (&Opening, &[u8]),
+    bill: &Playbill<'_, '_>,
+    opening: &Opening,
+    text: &[u8],
 ) -> Result<Night<F>, JobFault>
     ensures playable { IfOk result (λ night. IsPlayable F.stands_for night) }
 {
-    let (opening, text) = record;
-    match Night::<F>::open(rt.alloc(), show, source, words.night.base) {
-        Ok(night) if opening.goes_on() => go_on(night, words, opening.lines(text), text),
-        Ok(night) => begin(night, words.start, show),
-        Err(fault) => Err(failed(fault, show)),
+    match Night::<F>::open(rt.alloc(), bill.show, bill.source, bill.night.base) {
+        Ok(night) if opening.goes_on() => go_on(night, bill.words, opening.lines(text), text),
+        Ok(night) => begin(night, bill),
+        Err(fault) => Err(run_fault(fault, bill.show)),
     }
 }
 
-/// Opens the night over a show, so that it can follow a main.
+/// Opens a night, so that it can take up what another one did.
 ///
 /// # Errors
 ///
 /// Where the show is refused.
-pub fn new_night<F: Fader>(
-    rt: &HostRuntime,
-    show: &[u8],
-    source: Identity,
-    base: u16,
-) -> Result<Night<F>, JobFault>
+pub fn new_night<F: Fader>(rt: &HostRuntime, bill: &Playbill<'_, '_>) -> Result<Night<F>, JobFault>
     ensures { IfOk result (λ night. CanFollow F.stands_for night) }
 {
-    match Night::<F>::open(rt.alloc(), show, source, base) {
+    match Night::<F>::open(rt.alloc(), bill.show, bill.source, bill.night.base) {
         Ok(night) => Ok(night),
-        Err(fault) => Err(failed(fault, show)),
+        Err(fault) => Err(run_fault(fault, bill.show)),
     }
 }
 
-fn failed(fault: RunFault, show: &[u8]) -> JobFault {
+fn run_fault(fault: RunFault, show: &[u8]) -> JobFault {
     JobFault::Run(Failure::of_run(fault, show, None))
 }
 
-// Begins a night, in a cue where one is named.
-fn begin<F: Fader>(
-    mut night: Night<F>,
-    start: Option<u32>,
-    show: &[u8],
-) -> Result<Night<F>, JobFault>
+// Begins a night, in a cue where the words name one.
+fn begin<F: Fader>(mut night: Night<F>, bill: &Playbill<'_, '_>) -> Result<Night<F>, JobFault>
     requires real { (p : Production) × StandsFor F.stands_for p night [] }
     requires ready { IsReady night }
     ensures playable { IfOk result (λ night. IsPlayable F.stands_for night) }
 {
-    let Some(cue) = start else {
+    let Some(cue) = bill.words.start else {
         return Ok(night);
     };
     match night.begin_with(cue) {
         Ok(()) => Ok(night),
-        Err(fault) => Err(failed(fault, show)),
+        Err(fault) => Err(run_fault(fault, bill.show)),
     }
 }
 
@@ -190,15 +169,16 @@ fn go_on<F: Fader>(
 /// # Errors
 ///
 /// Where the clock cannot be read.
-pub fn head_of(rt: &HostRuntime, words: LiveWords<'_>, show: &[u8]) -> Result<RecordHead, Failure> {
-    let Some(name) = HeadName::new(source_name(words.night).as_bytes()) else {
+pub fn head_of(rt: &HostRuntime, bill: &Playbill<'_, '_>) -> Result<RecordHead, Failure> {
+    let night = bill.night;
+    let Some(name) = HeadName::new(source_name(night).as_bytes()) else {
         return Err(Failure::device("the source name is too long"));
     };
     Ok(RecordHead {
-        show: Sha256::digest(show),
-        cid: words.night.cid,
-        priority: words.night.priority,
-        base: words.night.base,
+        show: Sha256::digest(bill.show),
+        cid: night.cid,
+        priority: night.priority,
+        base: night.base,
         name,
         started: now(rt)?,
     })

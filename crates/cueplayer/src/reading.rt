@@ -1,17 +1,24 @@
 ghost use Rattle.std.specs.Prelude.{◌≡◌, ◌≤◌, IfOk, IfErr, length};
 ghost use Rattle.cueplayer.specs.Reading.{IsUnread};
 
-use crate::failure::Failure;
+use crate::cards::check_targets;
+use crate::failure::{Failure, JobFault};
 use byte_reading::{Unread, first_bytes};
 use cmd_faults::RunFault;
 use cmd_rehearse::LONGEST_SCRIPT;
+use cmd_words::Night;
+use night_record::FirstLines;
 use show_reader::LONGEST_TEXT;
 use std::fs::File;
+use system_devices::{AppendedLines, DeviceFault};
 
 // One byte more than a show text or a script may have, so that a longer one is seen.
 const MOST: usize = LONGEST_TEXT + 1;
 
 const MOST_OF_SCRIPT: usize = LONGEST_SCRIPT + 1;
+
+/// The record of a night that another process plays has its head within so many milliseconds.
+pub const HEAD_PATIENCE: u64 = 1000;
 
 /// The first bytes of the show of this name: `-` stands for standard input.
 ///
@@ -23,7 +30,7 @@ pub fn show_text(rt: &HostRuntime, name: &str) -> Result<Vec<u8>, Failure>
     ensures fault { IfErr result IsUnread }
 {
     if name == "-" {
-        return named(
+        return text_of(
             "standard input",
             first_bytes(rt.alloc(), &mut rt.stdin(), MOST),
         );
@@ -40,8 +47,21 @@ pub fn file_text(rt: &HostRuntime, name: &str) -> Result<Vec<u8>, Failure>
     ensures most { IfOk result (λ bytes. length bytes.items ≤ 1048577) }
     ensures fault { IfErr result IsUnread }
 {
-    let mut file = opened(rt, name)?;
-    named(name, first_bytes(rt.alloc(), &mut file, MOST))
+    let mut file = open_file(rt, name)?;
+    text_of(name, first_bytes(rt.alloc(), &mut file, MOST))
+}
+
+/// The first bytes of the show of a night, whose targets suit it.
+///
+/// # Errors
+///
+/// As [`file_text`] and [`check_targets`].
+pub fn suitable_show(rt: &HostRuntime, night: &Night) -> Result<Vec<u8>, JobFault>
+    ensures most { IfOk result (λ bytes. length bytes.items ≤ 1048577) }
+{
+    let text = file_text(rt, night.show.as_str())?;
+    check_targets(rt, night, text.as_slice())?;
+    Ok(text)
 }
 
 /// The first bytes of the script in the file of this name.
@@ -53,11 +73,11 @@ pub fn script_text(rt: &HostRuntime, name: &str) -> Result<Vec<u8>, Failure>
     ensures most { IfOk result (λ bytes. length bytes.items ≤ 16777217) }
     ensures fault { IfErr result IsUnread }
 {
-    let mut file = opened(rt, name)?;
-    named(name, first_bytes(rt.alloc(), &mut file, MOST_OF_SCRIPT))
+    let mut file = open_file(rt, name)?;
+    text_of(name, first_bytes(rt.alloc(), &mut file, MOST_OF_SCRIPT))
 }
 
-fn opened(rt: &HostRuntime, name: &str) -> Result<File, Failure>
+fn open_file(rt: &HostRuntime, name: &str) -> Result<File, Failure>
     ensures fault { IfErr result IsUnread }
 {
     match File::open(rt, name) {
@@ -67,7 +87,7 @@ fn opened(rt: &HostRuntime, name: &str) -> Result<File, Failure>
 }
 
 // What was read of an input of this name.
-fn named(name: &str, bytes: Result<Vec<u8>, Unread>) -> Result<Vec<u8>, Failure>
+fn text_of(name: &str, bytes: Result<Vec<u8>, Unread>) -> Result<Vec<u8>, Failure>
     ensures bytes { IfOk result (λ read. bytes ≡ Ok read) }
     ensures fault { IfErr result IsUnread }
 {
@@ -75,5 +95,30 @@ fn named(name: &str, bytes: Result<Vec<u8>, Unread>) -> Result<Vec<u8>, Failure>
         Ok(read) => Ok(read),
         Err(Unread::Device(kind)) => Err(Failure::of_device(name, kind)),
         Err(Unread::Memory) => Err(Failure::from(RunFault::Memory)),
+    }
+}
+
+/// The head of the record in the file of this name, if it comes within so many milliseconds, and
+/// the lines behind it; `None` too where this is neither a file nor a FIFO.
+///
+/// # Errors
+///
+/// As [`file_text`].
+pub fn record_lines(
+    rt: &HostRuntime,
+    name: &str,
+    milliseconds: u64,
+) -> Result<Option<(FirstLines, AppendedLines)>, Failure>
+    ensures fault { IfErr result IsUnread }
+{
+    let mut lines = match AppendedLines::open(rt, name) {
+        Ok(Some(lines)) => lines,
+        Ok(None) => return Ok(None),
+        Err(DeviceFault::Device(_, kind)) => return Err(Failure::of_device(name, kind)),
+        Err(DeviceFault::Memory) => return Err(Failure::from(RunFault::Memory)),
+    };
+    match lines.first_two(rt, milliseconds) {
+        Some(head) => Ok(Some((head, lines))),
+        None => Ok(None),
     }
 }

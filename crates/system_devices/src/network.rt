@@ -59,7 +59,8 @@ impl Source {
         }
     }
 
-    fn card_address(&self) -> CardAddress {
+    /// It and its card.
+    pub fn card_address(&self) -> CardAddress {
         let address = self.address;
         CardAddress {
             address,

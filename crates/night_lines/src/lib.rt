@@ -1,0 +1,36 @@
+//! What an operator is told at the start of a night, and about its network.
+//!
+//! Each line is made from plain data, and has room in its text. Nothing here opens, looks or tells.
+#![tactic(auto)]
+
+mod cid;
+mod clock;
+mod contents;
+mod ending;
+mod follow;
+mod other_cards;
+mod path_notices;
+mod place;
+mod record;
+mod sends;
+mod source_notices;
+mod sources;
+mod target_lines;
+
+use arrayvec::ArrayString;
+pub use clock::{ClockText, clock_text};
+pub use contents::{ContentsLine, contents_line};
+pub use ending::ending_line;
+pub use follow::{MainNight, main_line, take_line};
+pub use other_cards::{OtherCardsLine, other_cards_line};
+pub use path_notices::{Way, path_notice_line};
+pub use place::Place;
+pub use record::{Recording, no_record_line, record_line};
+pub use sends::{Transmission, sends_line};
+pub use source_notices::{NoticeLine, source_notice_line};
+pub use sources::{NoRouteLine, OriginLine, no_route_line, origin_line};
+pub use target_lines::{TargetLine, sole_target, target_line};
+
+/// A line of what is sent, recorded or followed: 16 universes, or a file's name of 256 bytes, have
+/// room.
+pub type StartLine = ArrayString<400>;
