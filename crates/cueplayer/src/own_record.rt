@@ -1,7 +1,9 @@
 ghost use Rattle.std.specs.Prelude.{[]};
 
 use cmd_live::{Led, MainConsole};
-use live_input::InputLine;
+use devices::LinkFault;
+use night_following::{PlayedRecord, Spare};
+use night_record::LineFront;
 use std::io::ErrorKind;
 use std::thread::sleep;
 use std::time::Duration;
@@ -15,47 +17,60 @@ const HEAD_LINES: u64 = 2;
 
 /// The record of a night that another process plays, until that has ended: then its file is locked,
 /// and each of its lines was given.
-///
-/// It does not tell what it gave.
 #[derive(Drop)]
 pub struct OwnRecord<'a> {
+    spare: Spare<WatchedFile<'a>>,
+}
+
+// The file of the record. It does not tell.
+#[derive(Drop)]
+struct WatchedFile<'a> {
     rt: &'a HostRuntime,
     name: &'a str,
     lines: AppendedLines,
     file: RecordFile,
     // The number of the newest line, from 1.
     number: u64,
-    is_ours: bool,
     fault: Option<RecordFault>,
 }
 
 impl<'a> OwnRecord<'a> {
     /// The record in the file of this name, behind its head.
     pub fn new(rt: &'a HostRuntime, name: &'a str, lines: AppendedLines, file: RecordFile) -> Self {
-        OwnRecord {
+        let record = WatchedFile {
             rt,
             name,
             lines,
             file,
             number: HEAD_LINES,
-            is_ours: false,
             fault: None,
+        };
+        OwnRecord {
+            spare: Spare { record },
         }
     }
 
     /// The name of its file.
     pub fn name(&self) -> &'a str {
-        self.name
+        self.spare.record.name
     }
 
     /// The number of the newest line, from 1.
     pub fn number(&self) -> u64 {
-        self.number
+        self.spare.record.number
     }
 
     /// The file, locked, and how many of its bytes were given in lines; or why it cannot be kept.
     pub fn into_file(self) -> Result<(RecordFile, u64), RecordFault> {
-        let OwnRecord {
+        let OwnRecord { spare } = self;
+        let Spare { record } = spare;
+        record.into_file()
+    }
+}
+
+impl WatchedFile<'_> {
+    fn into_file(self) -> Result<(RecordFile, u64), RecordFault> {
+        let WatchedFile {
             rt,
             name,
             lines,
@@ -70,27 +85,45 @@ impl<'a> OwnRecord<'a> {
         }
     }
 
-    fn next_line(&mut self) -> Option<InputLine> {
+    fn fail<T>(&mut self, fault: RecordFault) -> Result<T, LinkFault> {
+        self.fault = Some(fault);
+        Err(LinkFault)
+    }
+}
+
+impl PlayedRecord for WatchedFile<'_> {
+    ghost tells = { λ _. ⊥ };
+
+    ghost events = { λ _. [] };
+
+    ghost written = { λ _. [] };
+
+    fn next_line(&mut self) -> Option<LineFront> {
         let line = self.lines.next_line()?;
         self.number = self.number.saturating_add(1);
         Some(line)
     }
 
-    // Looks for lines, and where none has come, whether the night is still played. What its writer
-    // wrote before that let the lock go comes behind the lock.
-    fn waits(&mut self) -> Result<bool, RecordFault> {
-        self.lines.look().map_err(RecordFault::File)?;
-        if self.lines.has_line() {
-            return Ok(true);
+    fn look(&mut self) -> Result<bool, LinkFault> {
+        match self.lines.look() {
+            Ok(()) => Ok(self.lines.has_line()),
+            Err(kind) => self.fail(RecordFault::File(kind)),
         }
-        if self.is_ours {
-            return Ok(false);
+    }
+
+    fn has_lock(&self) -> bool {
+        self.file.has_lock()
+    }
+
+    fn take_over(&mut self) -> Result<bool, LinkFault> {
+        match self.file.take_over(self.rt, self.name) {
+            Ok(is_had) => Ok(is_had),
+            Err(fault) => self.fail(fault),
         }
-        self.is_ours = self.file.take_over(self.rt, self.name)?;
-        if !self.is_ours {
-            sleep(self.rt, Duration::from_millis(TURN));
-        }
-        Ok(true)
+    }
+
+    fn wait_turn(&mut self) {
+        sleep(self.rt, Duration::from_millis(TURN));
     }
 }
 
@@ -100,20 +133,6 @@ impl MainConsole for OwnRecord<'_> {
     ghost given = { λ _. [] };
 
     fn next(&mut self) -> Led {
-        // One turn a nanosecond would last for 584 years.
-        for _turn in 0..u64::MAX {
-            if let Some(line) = self.next_line() {
-                return Led::Line(line);
-            }
-            match self.waits() {
-                Ok(true) => {}
-                Ok(false) => return Led::End,
-                Err(fault) => {
-                    self.fault = Some(fault);
-                    return Led::End;
-                }
-            }
-        }
-        Led::End
+        self.spare.next()
     }
 }

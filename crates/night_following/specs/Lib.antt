@@ -1,0 +1,4 @@
+pub mod Told
+pub mod Spare
+pub mod Kept
+pub mod Following
