@@ -2,7 +2,6 @@ ghost use Rattle.std.specs.Prelude.{OnOk};
 ghost use Rattle.cueplayer.specs.Opening.{CanFollow};
 
 use crate::cards::check_targets;
-use crate::failure::{Failure, JobFault};
 use crate::jobs::{ended, played};
 use crate::link_watch::LinkWatch;
 use crate::live_booth::LiveBooth;
@@ -10,13 +9,13 @@ use crate::live_job::{LiveDevices, LiveWords, MainWords, Standard, begin_record}
 use crate::main_record::MainRecord;
 use crate::opening::{Opening, head_of, new_night};
 use crate::reading::file_text;
-use crate::refusal::Refusal;
 use crate::start_lines::{Followed, Place, Recorded, tell_start};
 use cmd_faults::RunFault;
 use cmd_live::{Night, Pause, Silent};
 use fade::{Fader, StepFader};
 use live_machine::NightInput;
 use night_record::{RecordHead, UnfitMain, main_head};
+use remarks::{Failure, JobFault, Refusal};
 use sacn_source::Identity;
 use std::cell::RefCell;
 use std::time::Instant;

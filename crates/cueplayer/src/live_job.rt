@@ -1,8 +1,7 @@
 ghost use Rattle.cueplayer.specs.Opening.{IsPlayable};
 
 use crate::cards::{check_targets, open_network};
-use crate::device_failure::of_record;
-use crate::failure::{Failure, JobFault};
+use crate::device_failure::{of_device_fault, of_lock_fault, of_record};
 use crate::follow_job::play_following;
 use crate::jobs::{NO_LOCK, ask_for, ended, played};
 use crate::link_watch::LinkWatch;
@@ -17,6 +16,7 @@ use cmd_live::Night as LiveNight;
 use cmd_words::Night;
 use fade::{Fader, StepFader};
 use live_machine::NightInput;
+use remarks::{Failure, JobFault};
 use sacn_source::Identity;
 use std::cell::RefCell;
 use std::fs::symlink_metadata;
@@ -69,8 +69,8 @@ impl Standard {
     pub fn open(rt: &HostRuntime) -> Result<Self, Failure> {
         ask_for(&rt.stdout(), "standard output")?;
         let is_told = ask_for(&rt.stderr(), "standard error").is_ok();
-        let input = TypedInput::open(rt)?;
-        let messages = Messages::new(rt, is_told)?;
+        let input = TypedInput::open(rt).map_err(of_device_fault)?;
+        let messages = Messages::new(rt, is_told).map_err(of_device_fault)?;
         Ok(Standard { input, messages })
     }
 }
@@ -110,8 +110,8 @@ impl LiveDevices {
         record: Option<RecordFile>,
     ) -> Result<Self, JobFault> {
         let Standard { input, messages } = standard;
-        let screen = Screen::new(rt, messages).map_err(Failure::from)?;
-        let lock = CidLock::take(rt, words.night.cid).map_err(Failure::from)?;
+        let screen = Screen::new(rt, messages).map_err(of_device_fault)?;
+        let lock = CidLock::take(rt, words.night.cid).map_err(of_lock_fault)?;
         let network = open_network(rt, words.night, true)?;
         Ok(LiveDevices {
             input,

@@ -1,10 +1,10 @@
 ghost use Rattle.std.specs.Prelude.{◌≡◌, ◌≤◌, IfOk, IfErr, length};
 ghost use Rattle.cueplayer.specs.Reading.{IsUnread};
 
-use crate::failure::Failure;
 use byte_reading::{Unread, first_bytes};
 use cmd_faults::RunFault;
 use cmd_rehearse::LONGEST_SCRIPT;
+use remarks::Failure;
 use show_reader::LONGEST_TEXT;
 use std::fs::File;
 

@@ -3,15 +3,14 @@ ghost use Rattle.cueplayer.specs.Opening.{CanFollow, IsPlayable};
 
 use crate::cards::check_targets;
 use crate::device_failure::of_record;
-use crate::failure::{Failure, JobFault};
 use crate::live_job::{LiveDevices, LiveWords, Playbill, Standard, lead};
 use crate::opening::{Opening, head_of, new_night, refusal_of};
 use crate::own_record::OwnRecord;
 use crate::reading::file_text;
-use crate::refusal::Refusal;
 use cmd_live::{Night, Pause, Silent};
 use fade::{Fader, StepFader};
 use night_record::own_head;
+use remarks::{Failure, JobFault, Refusal};
 use sacn_source::Identity;
 use system_devices::{AppendedLines, DeviceFault, RecordFault, RecordFile};
 

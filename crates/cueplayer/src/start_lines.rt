@@ -1,5 +1,4 @@
 use crate::network_lines::{NetworkLine, push_targets, tell_network};
-use crate::remark::{of_name, of_seeming};
 use crate::screen::Screen;
 use crate::source_name::source_name;
 use arrayvec::ArrayString;
@@ -8,6 +7,7 @@ use cmd_faults::RunFault;
 use cmd_words::Night;
 use console::cue_number;
 use patch::has_numbers;
+use remarks::{of_name, of_seeming};
 use show::{Counts, Show};
 use show_reader::{Loaded, read_show};
 use std::env::{self, VarError};
