@@ -8,9 +8,10 @@ use Rattle.std.proofs.lemmas.Bool.Decides.{nat_tests}
 use Rattle.std.proofs.lemmas.List.{append-nil, drop-drop, drop-take}
 use Rattle.std.proofs.lemmas.List.{length-take, length-take-le, take_min}
 use Rattle.memchr.specs.Find.{NoneBefore, Nowhere, Passes, is_byte}
-use Rattle.night_record.specs.Cut.{Cut, all_given, cut_of, front_of, whole_length, whole_lines}
+use Rattle.ascii_text.specs.Lines.{Cut, cut_of}
+use Rattle.night_record.specs.WholeLines.{front_of, line_fronts, whole_length, whole_lines}
 use Rattle.night_record.specs.Coming.{HasLooked, Keeps, StandsFor, part_to_keep}
-use Rattle.night_record.specs.Coming.{bytes_given, unseen_in}
+use Rattle.night_record.specs.Coming.{bytes_given, unseen_bytes}
 use Rattle.night_record.specs.declared.lines.NightLines.{NightLines}
 use Rattle.night_record.proofs.Ends.{around, no_newline, none_before}
 use Rattle.night_record.proofs.Parting.{cut_line, cut_plain, cut_whole, front_more, length_whole}
@@ -32,19 +33,19 @@ seen_more block seen came k lt =
 
 -- no whole line is left: all that came was looked at
 pub none_left : (old new : NightLines) (text : List ℕ) (given : List (List ℕ))
-    → Nowhere (Passes (is_byte 10) (unseen_in old)) 0 (length (unseen_in old))
-    → unseen_in new ≡ [] → new.line.items ≡ front_of (old.line.items ++ unseen_in old)
-    → new.place + new.seen ≡ old.place + old.seen + length (unseen_in old)
+    → Nowhere (Passes (is_byte 10) (unseen_bytes old)) 0 (length (unseen_bytes old))
+    → unseen_bytes new ≡ [] → new.line.items ≡ front_of (old.line.items ++ unseen_bytes old)
+    → new.place + new.seen ≡ old.place + old.seen + length (unseen_bytes old)
     → bytes_given new ≡ bytes_given old → StandsFor old text given
-    → StandsFor new text given × (given ≡ all_given text) × (unseen_in new ≡ [])
+    → StandsFor new text given × (given ≡ line_fronts text) × (unseen_bytes new ≡ [])
 none_left old new text given nowhere seen line place taken s =
-    let unseen = unseen_in old in
+    let unseen = unseen_bytes old in
     let cut = ap (λ t. cut_of t) s.came
     ∙ cut_plain s.looked_at unseen (no_newline unseen nowhere) in
     let lines : (cut_of text).lines ≡ (cut_of s.looked_at).lines = ap (λ (c : Cut). c.lines) cut in
     let rest : (cut_of text).rest ≡ (cut_of s.looked_at).rest ++ unseen
     = ap (λ (c : Cut). c.rest) cut in
-    let gave : given ≡ all_given text = s.gave ∙ sym (ap (map front_of) lines) in
+    let gave : given ≡ line_fronts text = s.gave ∙ sym (ap (map front_of) lines) in
     let size : length text ≡ length s.looked_at + length unseen
     = ap length s.came ∙ length-append s.looked_at unseen in
     let left : length (cut_of text).rest ≡ length (cut_of s.looked_at).rest + length unseen
@@ -65,28 +66,28 @@ none_left old new text given nowhere seen line place taken s =
 -- the next line
 pub next_given : (old new : NightLines) (k : ℕ) (text : List ℕ) (given : List (List ℕ))
     (line : List ℕ)
-    → NoneBefore (Passes (is_byte 10) (unseen_in old)) 0 (length (unseen_in old)) k
-    × Passes (is_byte 10) (unseen_in old) k
-    → unseen_in new ≡ drop (k + 1) (unseen_in old)
-    → line ≡ front_of (old.line.items ++ take k (unseen_in old)) → new.line.items ≡ []
+    → NoneBefore (Passes (is_byte 10) (unseen_bytes old)) 0 (length (unseen_bytes old)) k
+    × Passes (is_byte 10) (unseen_bytes old) k
+    → unseen_bytes new ≡ drop (k + 1) (unseen_bytes old)
+    → line ≡ front_of (old.line.items ++ take k (unseen_bytes old)) → new.line.items ≡ []
     → new.place + new.seen ≡ old.place + old.seen + (k + 1)
     → bytes_given new ≡ new.place + new.seen → StandsFor old text given
     → StandsFor new text (line ∷ given)
 next_given old new k text given line at unseen is begun place taken s =
-    let front = take k (unseen_in old) in
+    let front = take k (unseen_bytes old) in
     let seen = s.looked_at ++ (front ++ 10 ∷ []) in
-    let cut = cut_line s.looked_at front (none_before (unseen_in old) k at) in
+    let cut = cut_line s.looked_at front (none_before (unseen_bytes old) k at) in
     let rest : (cut_of seen).rest ≡ [] = ap (λ (c : Cut). c.rest) cut in
     let none : length (cut_of seen).rest ≡ 0 = ap length rest in
-    let few : length front ≡ k = length-take-le k (unseen_in old) (omega (arith, at.0.high)) in
+    let few : length front ≡ k = length-take-le k (unseen_bytes old) (omega (arith, at.0.high)) in
     let size : length seen ≡ length s.looked_at + (k + 1)
     = length-append s.looked_at (front ++ 10 ∷ [])
     ∙ ap (λ n. length s.looked_at + n) (length-append front (10 ∷ []) ∙ ap (λ n. n + 1) few) in
     let at_place : new.place + new.seen ≡ length seen = place ∙ omega (arith, s.place) in
     record {
       looked_at = seen;
-      came = s.came ∙ (ap (λ u. s.looked_at ++ u) (around (unseen_in old) k at.0.high at.1)
-          ∙ (sym (append_assoc s.looked_at (front ++ 10 ∷ []) (drop (k + 1) (unseen_in old)))
+      came = s.came ∙ (ap (λ u. s.looked_at ++ u) (around (unseen_bytes old) k at.0.high at.1)
+          ∙ (sym (append_assoc s.looked_at (front ++ 10 ∷ []) (drop (k + 1) (unseen_bytes old)))
           ∙ ap (λ u. seen ++ u) (sym unseen)));
       gave = ap (λ l. l ∷ given) (is ∙ (ap (λ l. front_of (l ++ front)) s.begun
           ∙ front_more (cut_of s.looked_at).rest front))
@@ -98,11 +99,12 @@ next_given old new k text given line at unseen is begun place taken s =
     }
 
 -- what came of a line that began is forgotten
-pub forgotten : (old new : NightLines) (text : List ℕ) (given : List (List ℕ))
-    → unseen_in old ≡ [] → unseen_in new ≡ [] → new.line.items ≡ [] → new.place ≡ bytes_given old
+pub after_forget : (old new : NightLines) (text : List ℕ) (given : List (List ℕ))
+    → unseen_bytes old ≡ [] → unseen_bytes new ≡ [] → new.line.items ≡ []
+    → new.place ≡ bytes_given old
     → new.seen ≡ 0 → bytes_given new ≡ bytes_given old → StandsFor old text given
     → StandsFor new (whole_lines text) given
-forgotten old new text given none none_now line place seen taken s =
+after_forget old new text given none none_now line place seen taken s =
     let all : text ≡ s.looked_at = s.came
     ∙ (ap (λ u. s.looked_at ++ u) none ∙ append-nil s.looked_at) in
     let cut = cut_whole text in
@@ -113,7 +115,7 @@ forgotten old new text given none none_now line place seen taken s =
     record {
       looked_at = whole_lines text;
       came = sym (ap (λ u. whole_lines text ++ u) none_now ∙ append-nil (whole_lines text));
-      gave = s.gave ∙ (ap all_given (sym all) ∙ sym (ap (λ (c : Cut). map front_of c.lines) cut));
+      gave = s.gave ∙ (ap line_fronts (sym all) ∙ sym (ap (λ (c : Cut). map front_of c.lines) cut));
       begun = line ∙ sym (ap front_of rest);
       place = omega (arith, place, seen, was, size);
       taken = taken ∙ (was ∙ omega (arith, size, left));
@@ -126,7 +128,7 @@ beyond : (m n : ℕ) → n < m → leb m n ≡ false
 beyond m n h = grind (arith, nat_tests)
 
 -- whether what came is kept whole, by the line that began
-pub keeps_whole : (old new : NightLines) → unseen_in old ≡ []
+pub keeps_whole : (old new : NightLines) → unseen_bytes old ≡ []
     → ((text : List ℕ) (given : List (List ℕ)) → length text < 2 ^ 64 → StandsFor old text given
     → StandsFor new (whole_lines text) given)
     → length old.line.items ≤ 200 → Keeps true old new
@@ -140,7 +142,7 @@ keeps_whole old new none h few text given small s =
     subst (λ b. StandsFor new (cond b (whole_lines text) text) given) (sym is)
     (h text given small s)
 
-pub keeps_long : (old new : NightLines) → unseen_in old ≡ [] → Keeps false old new
+pub keeps_long : (old new : NightLines) → unseen_bytes old ≡ [] → Keeps false old new
     → 201 ≤ length old.line.items → Keeps true old new
 keeps_long old new none h long text given small s =
     let all : text ≡ s.looked_at = s.came
@@ -161,7 +163,7 @@ from_front block seen came none =
 
 -- bytes of a record came
 pub has_looked : (is_file : Bool) (old mid new : NightLines) (more record_text : List ℕ)
-    → Keeps is_file old mid → unseen_in mid ≡ [] → mid.seen ≡ 0 → unseen_in new ≡ more
+    → Keeps is_file old mid → unseen_bytes mid ≡ [] → mid.seen ≡ 0 → unseen_bytes new ≡ more
     → more ≡ take new.came (drop mid.place record_text)
     → new.line ≡ mid.line → new.place ≡ mid.place → new.seen ≡ mid.seen
     → bytes_given new ≡ bytes_given mid → HasLooked is_file old new more record_text

@@ -11,7 +11,8 @@ use Rattle.std.proofs.lemmas.List.Sums.{position_or_len_is}
 use Rattle.ascii_text.proofs.Marks.{list_any-none, list_any-some}
 use Rattle.memchr.specs.Find.{IsFirstByte, NoneAfter, NoneBefore, Nowhere, Passes, is_byte}
 use Rattle.ascii_text.specs.Text.{is_newline}
-use Rattle.night_record.specs.Cut.{Cut, cut_of, whole_length}
+use Rattle.ascii_text.specs.Lines.{Cut, cut_of}
+use Rattle.night_record.specs.WholeLines.{whole_length}
 use Rattle.night_record.proofs.Parting.{cut_plain, ends_with_none}
 
 -- no LF was found

@@ -10,8 +10,8 @@ use Rattle.std.proofs.lemmas.List.{append-nil, length-take-le, take-append-le, t
 use Rattle.std.proofs.lemmas.List.Sums.{fold-append}
 use Rattle.std.proofs.Math.Seq.{take-append-add, take-append_seam}
 use Rattle.ascii_text.specs.Text.{is_newline}
-use Rattle.night_record.specs.Cut.{Cut, cut_of, front_of}
-use Rattle.night_record.specs.Cut.{no_bytes, with_byte, whole_length, whole_lines}
+use Rattle.ascii_text.specs.Lines.{Cut, cut_of, no_bytes, with_byte}
+use Rattle.night_record.specs.WholeLines.{front_of, whole_length, whole_lines}
 
 -- bytes without an LF go behind those of the line
 plain : (xs : List ℕ) (lines : List (List ℕ)) (rest : List ℕ)
@@ -76,7 +76,7 @@ record IsParted (text front : List ℕ) : Type 0 where
 abbrev Parted : List ℕ → Type 0
 Parted text = (front : List ℕ) × IsParted text front
 
-parted_at : (text : List ℕ) (byte : ℕ) (b : Bool) → eqb byte 10 ≡ b → Parted text
+parting_at : (text : List ℕ) (byte : ℕ) (b : Bool) → eqb byte 10 ≡ b → Parted text
     → cut_of (text ++ byte ∷ []) ≡ cond b (record {
       lines
           = (cut_of text).rest ∷ (cut_of text).lines;
@@ -84,7 +84,7 @@ parted_at : (text : List ℕ) (byte : ℕ) (b : Bool) → eqb byte 10 ≡ b → 
     })
     (record { lines = (cut_of text).lines; rest = (cut_of text).rest ++ byte ∷ [] })
     → Parted (text ++ byte ∷ [])
-parted_at text byte true e p cut =
+parting_at text byte true e p cut =
     let rest : (cut_of (text ++ byte ∷ [])).rest ≡ [] = ap (λ (c : Cut). c.rest) cut in (
       text ++ byte ∷ [],
       record {
@@ -92,7 +92,7 @@ parted_at text byte true e p cut =
         cut = cut ∙ ap (λ (c : Cut). record { lines = c.lines; rest = [] }) (sym cut);
       },
     )
-parted_at text byte false e p cut =
+parting_at text byte false e p cut =
     let rest : (cut_of (text ++ byte ∷ [])).rest ≡ (cut_of text).rest ++ byte ∷ []
     = ap (λ (c : Cut). c.rest) cut in (
       p.0,
@@ -103,20 +103,20 @@ parted_at text byte false e p cut =
       },
     )
 
-parted_more : (text xs : List ℕ) → Parted text → Parted (text ++ xs)
-parted_more text [] p = subst Parted (sym (append-nil text)) p
-parted_more text (x ∷ xs) p = subst Parted (append_assoc text (x ∷ []) xs)
-    (parted_more (text ++ x ∷ []) xs (parted_at text x (eqb x 10) refl p
+parting_more : (text xs : List ℕ) → Parted text → Parted (text ++ xs)
+parting_more text [] p = subst Parted (sym (append-nil text)) p
+parting_more text (x ∷ xs) p = subst Parted (append_assoc text (x ∷ []) xs)
+    (parting_more (text ++ x ∷ []) xs (parting_at text x (eqb x 10) refl p
     (fold-append with_byte no_bytes text (x ∷ []))))
 
-parted : (text : List ℕ) → Parted text
-parted text = parted_more [] text ([], record { is = refl; cut = refl })
+parting : (text : List ℕ) → Parted text
+parting text = parting_more [] text ([], record { is = refl; cut = refl })
 
 -- the whole lines of a text have its lines, and no line begins behind them
 pub cut_whole : (text : List ℕ)
     → cut_of (whole_lines text) ≡ record { lines = (cut_of text).lines; rest = [] }
 cut_whole text =
-    let p = parted text in
+    let p = parting text in
     let size : length text ≡ length p.0 + length (cut_of text).rest
     = ap length p.1.is ∙ length-append p.0 (cut_of text).rest in
     let whole : whole_length text ≡ length p.0 = omega arith in

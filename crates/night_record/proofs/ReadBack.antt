@@ -18,7 +18,8 @@ use Rattle.uuid.proofs.TextLemmas.{by_index_length}
 use Rattle.uuid.proofs.RoundTrips.{parses_hyphenated}
 use Rattle.ascii_text.specs.Forms.{whole_of}
 use Rattle.night_record.specs.Head.{IsHead, head_text, name_of}
-use Rattle.night_record.specs.Reading.{before_comma, behind_comma, is_comma, laid_out, with_name}
+use Rattle.night_record.specs.Reading.{before_comma, behind_comma, is_comma, head_at_places}
+use Rattle.night_record.specs.Reading.{with_name}
 use Rattle.night_record.specs.Reading.{hex_answer, head_with, show_of, started_of}
 use Rattle.night_record.specs.declared.head.RecordHead.{RecordHead}
 
@@ -133,7 +134,7 @@ past word part rest m n word_is part_is =
     drop_at word (part ++ rest) m word_is in
     (ap (take n) at ∙ take_at part rest n part_is, ap (drop n) at ∙ drop_at part rest n part_is)
 
-read_back : (head : RecordHead) → IsHead head → laid_out (head_text head) ≡ Some head
+read_back : (head : RecordHead) → IsHead head → head_at_places (head_text head) ≡ Some head
 read_back head is =
     let named_text : List ℕ = head.name ++ (codes ", started " ++ head.started) in
     let base_text : List ℕ = decimal head.base ++ (codes ", name " ++ named_text) in
@@ -179,6 +180,6 @@ read_back head is =
     (named_back (head_with (Some head.show) (Some head.cid) (Some head.priority) (Some head.base))
     head.name head.started is.4 is.5))
 
-pub taken : (line : List ℕ) (head : RecordHead) → IsHead head → head_text head ≡ line
-    → laid_out line ≡ Some head
-taken line head is spelled = ap laid_out (sym spelled) ∙ read_back head is
+pub head_there : (line : List ℕ) (head : RecordHead) → IsHead head → head_text head ≡ line
+    → head_at_places line ≡ Some head
+head_there line head is spelled = ap head_at_places (sym spelled) ∙ read_back head is

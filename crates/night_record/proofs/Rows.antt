@@ -4,14 +4,14 @@ use Rattle.std.specs.Prelude.{Some, None, codes}
 use Rattle.ascii_text.specs.Text.{words_of}
 use Rattle.night_record.specs.Asked.{asked_by}
 use Rattle.night_record.specs.Coming.{part_to_keep}
-use Rattle.night_record.specs.Cut.{all_given, whole_length}
+use Rattle.night_record.specs.WholeLines.{line_fronts, whole_length}
 use Rattle.night_record.specs.Opening.{head_in}
 use Rattle.night_record.specs.Silence.{is_record_silent, leading_moment}
 use Rattle.night_record.specs.declared.asked.Asked.TheVariants.{Take, Help, Other}
 use Rattle.std.proofs.Common.{true, false}
 
 -- a record that was cut in its third line
-cut_lines : all_given (codes "0 go\n23 tick\n46 ti") ≡ codes "23 tick" ∷ codes "0 go" ∷ []
+cut_lines : line_fronts (codes "0 go\n23 tick\n46 ti") ≡ codes "23 tick" ∷ codes "0 go" ∷ []
 cut_lines = refl
 
 cut_behind : whole_length (codes "0 go\n23 tick\n46 ti") ≡ 13
@@ -32,7 +32,7 @@ without_newline : whole_length (codes "0 go") ≡ 0
 without_newline = refl
 
 -- CR belongs to its line
-with_cr : all_given (codes "0 go\r\n") ≡ codes "0 go\r" ∷ []
+with_cr : line_fronts (codes "0 go\r\n") ≡ codes "0 go\r" ∷ []
 with_cr = refl
 
 -- a head is two whole lines

@@ -4,16 +4,17 @@ use Rattle.std.specs.Prelude.{Bool, ◌&&◌, if◌then◌else◌, nat_le}
 use Rattle.std.specs.List.{slice_range}
 use Rattle.live_machine.specs.declared.input.Came.{Came}
 use Rattle.live_machine.specs.declared.input.Came.TheVariants.{Bytes}
-use Rattle.night_record.specs.Cut.{all_given, cut_of, front_of, whole_length, whole_lines}
+use Rattle.ascii_text.specs.Lines.{cut_of}
+use Rattle.night_record.specs.WholeLines.{front_of, line_fronts, whole_length, whole_lines}
 use Rattle.night_record.specs.declared.lines.NightLines.{NightLines}
 
 -- the bytes that came and were not looked at
-abbrev pub unseen_in : NightLines → List ℕ
-unseen_in lines = slice_range lines.block lines.seen lines.came
+abbrev pub unseen_bytes : NightLines → List ℕ
+unseen_bytes lines = slice_range lines.block lines.seen lines.came
 
 -- what was not given in lines, as far as it is kept: at most 4,096 bytes
 abbrev pub rest_in : NightLines → List ℕ
-rest_in lines = take 4096 (lines.line.items ++ unseen_in lines)
+rest_in lines = take 4096 (lines.line.items ++ unseen_bytes lines)
 
 -- so many bytes were given in lines, their LFs included
 abbrev pub bytes_given : NightLines → ℕ
@@ -23,8 +24,8 @@ bytes_given lines = lines.taken
 -- and in order. Of a line whose LF has not come, what was looked at is kept
 pub record StandsFor (lines : NightLines) (text : List ℕ) (given : List (List ℕ)) : Type 0 where
   pub looked_at : List ℕ
-  pub came : text ≡ looked_at ++ unseen_in lines
-  pub gave : given ≡ all_given looked_at
+  pub came : text ≡ looked_at ++ unseen_bytes lines
+  pub gave : given ≡ line_fronts looked_at
   pub begun : lines.line.items ≡ front_of (cut_of looked_at).rest
   pub place : lines.place + lines.seen ≡ length looked_at
   pub taken : bytes_given lines ≡ whole_length looked_at
@@ -35,9 +36,9 @@ StandsForMore old more new = (text : List ℕ) (given : List (List ℕ)) → len
     → StandsFor old text given → StandsFor new (text ++ more) given
 
 -- the bytes that a wait for what is typed brought, at the front of a block
-abbrev pub typed_in : Came → List ℕ → List ℕ
-typed_in (Bytes count) block = take count block
-typed_in _ block = []
+abbrev pub typed_bytes : Came → List ℕ → List ℕ
+typed_bytes (Bytes count) block = take count block
+typed_bytes _ block = []
 
 -- what counts of the bytes that came, when it is looked for more: all of them; but of a file its
 -- whole lines, since a part of a line may be cut off, where the line that began has at most 200

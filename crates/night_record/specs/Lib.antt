@@ -1,4 +1,4 @@
-pub mod Cut
+pub mod WholeLines
 pub mod Coming
 pub mod Unfit
 pub mod Opening

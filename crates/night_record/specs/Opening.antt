@@ -6,7 +6,7 @@ use Rattle.std.specs.List.{position_or_len, starts_with}
 use Rattle.ascii_text.specs.Text.{is_newline}
 use Rattle.night_record.specs.Head.{head_text}
 use Rattle.night_record.specs.declared.head.RecordHead.{RecordHead}
-use Rattle.night_record.specs.Cut.{whole_length}
+use Rattle.night_record.specs.WholeLines.{whole_length}
 use Rattle.night_record.specs.declared.opening.RecordOpening.{RecordOpening}
 use Rattle.night_record.specs.declared.opening.RecordOpening.TheVariants.{Begins, GoesOn}
 use Rattle.night_record.specs.declared.unfit.Unfit.{Unfit}

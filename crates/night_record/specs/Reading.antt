@@ -54,8 +54,8 @@ with_name with_parts text =
     with_parts (name_of (take n text)) (started_of (drop 10 (drop n text)))
 
 -- what stands behind the words of a head, at the places of the parts
-abbrev pub laid_out : List ℕ → Option RecordHead
-laid_out line =
+abbrev pub head_at_places : List ℕ → Option RecordHead
+head_at_places line =
     let digits = drop 27 line in
     let cid = drop 7 (drop 64 digits) in
     let priority = drop 11 (drop 36 cid) in

@@ -37,8 +37,8 @@ impl NightLines {
     ghost use Rattle.live_machine.specs.Input.{brought_by, fault};
     ghost use Rattle.live_machine.specs.declared.input.Came.TheVariants.{Nothing};
     ghost use Rattle.night_record.specs.Coming.{HasLooked, Keeps, StandsFor, StandsForMore};
-    ghost use Rattle.night_record.specs.Coming.{rest_in, bytes_given, typed_in, unseen_in};
-    ghost use Rattle.night_record.specs.Cut.{all_given, whole_lines};
+    ghost use Rattle.night_record.specs.Coming.{rest_in, bytes_given, typed_bytes, unseen_bytes};
+    ghost use Rattle.night_record.specs.WholeLines.{line_fronts, whole_lines};
 
     /// No byte has come yet.
     pub fn new() -> Self
@@ -61,8 +61,8 @@ impl NightLines {
             → StandsFor self.new text (line.items ∷ given)) }
         ensures none { IsNone result → (text : List ℕ) (given : List (List ℕ))
             → length text < 2 ^ 64 → StandsFor self.old text given
-            → StandsFor self.new text given × (given ≡ all_given text)
-            × (unseen_in self.new ≡ []) }
+            → StandsFor self.new text given × (given ≡ line_fronts text)
+            × (unseen_bytes self.new ≡ []) }
     {
         let mut line = self.line.take();
         let unseen = &self.block[self.seen..self.came];
@@ -80,7 +80,7 @@ impl NightLines {
 
     /// Whether a whole line came that was not given yet.
     pub fn has_line(&self) -> bool
-        ensures { result ≡ list_any is_newline (unseen_in self.now) }
+        ensures { result ≡ list_any is_newline (unseen_bytes self.now) }
     {
         memchr(b'\n', &self.block[self.seen..self.came]).is_some()
     }
@@ -115,10 +115,10 @@ impl NightLines {
         milliseconds: u64,
     ) -> Result<Came, LinkFault>
         ensures told { I.tells input.new → I.tells input.old }
-        ensures first { 1 ≤ length (unseen_in self.old)
+        ensures first { 1 ≤ length (unseen_bytes self.old)
             → (result ≡ Ok Nothing) × (self.new ≡ self.old) × (input.new ≡ input.old) }
-        ensures ok { IfOk result (λ came. unseen_in self.old ≡ [] → (block : List ℕ)
-            × StandsForMore self.old (typed_in came block) self.new
+        ensures ok { IfOk result (λ came. unseen_bytes self.old ≡ [] → (block : List ℕ)
+            × StandsForMore self.old (typed_bytes came block) self.new
             × (I.tells input.new → I.waits input.new ≡ I.waits input.old
             ++ record { most = milliseconds; brought = brought_by came block } ∷ [])) }
         ensures err { OnErr result (StandsForMore self.old [] self.new
@@ -151,9 +151,9 @@ impl NightLines {
     /// The system's reason where the record cannot be read.
     pub fn look<G: Growth>(&mut self, written: &mut G) -> Result<(), ErrorKind>
         ensures told { G.tells written.new → G.tells written.old }
-        ensures first { 1 ≤ length (unseen_in self.old)
+        ensures first { 1 ≤ length (unseen_bytes self.old)
             → IsOk result × (self.new ≡ self.old) × (written.new ≡ written.old) }
-        ensures ok { OnOk result (unseen_in self.old ≡ [] → G.tells written.new
+        ensures ok { OnOk result (unseen_bytes self.old ≡ [] → G.tells written.new
             → HasLooked (G.is_file written.old) self.old self.new (G.latest written.new)
             (G.text written.new)) }
         ensures err { OnErr result (Keeps (G.is_file written.old) self.old self.new) }
@@ -173,9 +173,9 @@ impl NightLines {
 
     // The next bytes come to the front of the block: of a file those behind the whole lines.
     fn make_room(&mut self, is_file: bool)
-        requires { unseen_in self.old ≡ [] }
+        requires { unseen_bytes self.old ≡ [] }
         ensures keeps { Keeps is_file self.old self.new }
-        ensures none { unseen_in self.new ≡ [] }
+        ensures none { unseen_bytes self.new ≡ [] }
         ensures front { (self.new.seen ≡ 0) × (self.new.came ≡ 0) }
     {
         if is_file {
@@ -186,9 +186,9 @@ impl NightLines {
     }
 
     fn read_again(&mut self)
-        requires { unseen_in self.old ≡ [] }
+        requires { unseen_bytes self.old ≡ [] }
         ensures keeps { Keeps true self.old self.new }
-        ensures none { unseen_in self.new ≡ [] }
+        ensures none { unseen_bytes self.new ≡ [] }
         ensures front { (self.new.seen ≡ 0) × (self.new.came ≡ 0) }
     {
         if self.line.is_full() {
@@ -200,10 +200,10 @@ impl NightLines {
 
     // What came of a line that began is forgotten.
     fn forget_line(&mut self)
-        requires { unseen_in self.old ≡ [] }
+        requires { unseen_bytes self.old ≡ [] }
         ensures whole { (text : List ℕ) (given : List (List ℕ)) → length text < 2 ^ 64
             → StandsFor self.old text given → StandsFor self.new (whole_lines text) given }
-        ensures none { unseen_in self.new ≡ [] }
+        ensures none { unseen_bytes self.new ≡ [] }
         ensures front { (self.new.seen ≡ 0) × (self.new.came ≡ 0) }
     {
         self.line.clear();
@@ -214,10 +214,10 @@ impl NightLines {
 
     // The next bytes come to the front of the block.
     fn begin_block(&mut self)
-        requires { unseen_in self.old ≡ [] }
+        requires { unseen_bytes self.old ≡ [] }
         ensures more { StandsForMore self.old [] self.new }
         ensures keeps { Keeps false self.old self.new }
-        ensures none { unseen_in self.new ≡ [] }
+        ensures none { unseen_bytes self.new ≡ [] }
         ensures front { (self.new.seen ≡ 0) × (self.new.came ≡ 0) }
     {
         self.place = self.place.saturating_add(self.came as u64);

@@ -1,5 +1,5 @@
 ghost use Rattle.std.specs.Prelude.{◌≡◌, length};
-ghost use Rattle.night_record.specs.Cut.{whole_length};
+ghost use Rattle.night_record.specs.WholeLines.{whole_length};
 ghost use Rattle.night_record.specs.Opening.{IsOpening, is_part_of_head};
 
 use crate::head::RecordHead;

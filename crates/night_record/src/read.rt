@@ -4,7 +4,7 @@ ghost use Rattle.uuid.specs.Text.{parsed};
 ghost use Rattle.ascii_text.specs.Forms.{whole_of};
 ghost use Rattle.night_record.specs.Head.{HasForm, IsHead, head_text, shape};
 ghost use Rattle.night_record.specs.Reading.{before_comma, behind_comma, is_comma};
-ghost use Rattle.night_record.specs.Reading.{head_with, laid_out, show_of, started_of};
+ghost use Rattle.night_record.specs.Reading.{head_with, head_at_places, show_of, started_of};
 
 use crate::head::{HeadName, RecordHead};
 use ascii_text::whole;
@@ -51,7 +51,7 @@ impl RecordHead {
         ensures back { (head : RecordHead) → IsHead head → head_text head ≡ line.now →
             result ≡ Some head }
     {
-        let head = laid_out(line)?;
+        let head = head_at_places(line)?;
         if is_spelled_by(&head, line) {
             Some(head)
         } else {
@@ -68,8 +68,8 @@ fn is_spelled_by(head: &RecordHead, line: &[u8]) -> bool
 
 // What stands at the places of the parts, if the line spells a head: whether it does is not looked
 // at.
-fn laid_out(line: &[u8]) -> Option<RecordHead>
-    ensures { result ≡ laid_out line.now }
+fn head_at_places(line: &[u8]) -> Option<RecordHead>
+    ensures { result ≡ head_at_places line.now }
 {
     let (_, line) = split(line, 27);
     let (show, line) = split(line, 64);

@@ -1,5 +1,5 @@
 use Rattle.std.proofs.Common.{refl}
-use Rattle.night_record.proofs.read.laid_out.Goals as goal
+use Rattle.night_record.proofs.read.head_at_places.Goals as goal
 
 pub returns : goal.returns
 returns c =
