@@ -2,7 +2,7 @@
 use Rattle.std.proofs.Common.{◌≡◌, ℕ, ◌+◌, ◌≤◌, ◌&&◌, true, false, cond, List, [], ◌∷◌, ◌++◌}
 use Rattle.std.proofs.Common.{length, reverse, take, refl, sym, ap, subst, ◌∙◌, Option, Some}
 use Rattle.std.proofs.Common.{None}
-use Rattle.std.specs.Prelude.{option_to_list, unwrap_or}
+use Rattle.std.specs.Prelude.{codes, option_to_list, unwrap_or}
 use Rattle.std.specs.Option.{option_or}
 use Rattle.std.proofs.lemmas.List.{append-nil}
 use Rattle.std.proofs.lemmas.List.Sums.{fold-append}
@@ -16,14 +16,14 @@ use Rattle.show_line.specs.Keywords.{may_own}
 use Rattle.show_line.specs.Said.{desk_limits, record_opened, line_reading}
 use Rattle.show_reader.specs.Meaning.{Is, Silent, after, same_record}
 use Rattle.show_reader.specs.Text.{Words, owner_after, owner_below, said_under}
-use Rattle.cmd_explain.specs.Headings.{keyword_in}
+use Rattle.cmd_explain.specs.Headings.{begins_with_word, keyword_in}
 use Rattle.cmd_explain.specs.Skipped.{words_in}
 use Rattle.cmd_explain.proofs.Lines.{all_that_are_read, all_that_are_there, none_left}
 use Rattle.cmd_explain.proofs.Lines.{reading_is}
 use Rattle.cmd_cues.specs.declared.label_line.LabelKind.{LabelKind}
 use Rattle.cmd_cues.specs.declared.label_line.LabelKind.TheVariants.{Text, Comment}
 use Rattle.cmd_cues.specs.declared.label_line.LabelLine.{LabelLine}
-use Rattle.cmd_cues.specs.Labels.{is_text, label_after, label_news_of, label_part}
+use Rattle.cmd_cues.specs.Labels.{label_after, label_news_of, label_part}
 use Rattle.cmd_cues.specs.Labels.{last_label, names}
 use Rattle.cmd_cues.specs.LabelLines.{AreOf, label_by, label_if, last_label_by}
 use Rattle.cmd_cues.specs.LabelLines.{line_news, news_in}
@@ -54,15 +54,15 @@ next_labels above line owner s said old owned says news are = λ r kind.
     (last_label r kind above)) owned
 
 -- a CUE, SUB or GROUP line labels the record that it opens, by its comment
-pub opened_news : (r q : Record) (kind : LabelKind) (owner : Option Record) (line : List ℕ)
+pub opening_news : (r q : Record) (kind : LabelKind) (owner : Option Record) (line : List ℕ)
     → label_if (same_record r q) kind Comment (label_part Comment line)
     ≡ label_news_of r kind owner (Opens q) line
-opened_news r q Text owner line = refl
-opened_news r q Comment owner line = refl
+opening_news r q Text owner line = refl
+opening_news r q Comment owner line = refl
 
 -- a TEXT line labels its owner
 pub text_news : (r q : Record) (kind : LabelKind) (line : List ℕ)
-    → is_text (words_of line) ≡ true
+    → begins_with_word (codes "text") (words_of line) ≡ true
     → label_if (same_record r q) kind Text (label_part Text line)
     ≡ label_news_of r kind (Some q) Quiet line
 text_news r q Comment line is = refl
@@ -72,7 +72,8 @@ text_news r q Text line is =
 
 -- another line without effect labels nothing
 pub quiet_news : (r : Record) (kind : LabelKind) (owner : Option Record) (line : List ℕ)
-    → is_text (words_of line) ≡ false → news_in r kind None ≡ label_news_of r kind owner Quiet line
+    → begins_with_word (codes "text") (words_of line) ≡ false
+    → news_in r kind None ≡ label_news_of r kind owner Quiet line
 quiet_news r Comment owner line is = refl
 quiet_news r Text owner line is =
     ap (λ b. cond (names r (cond b owner None) && is_word (label_part Text line))
@@ -86,9 +87,10 @@ no_words r Text None line none = rw none refl
 no_words r Comment owner line none = refl
 
 -- what is not read has no words
-pub unread : (owner : Option Record) (l : Words) → None ≡ line_reading desk_limits owner l → l ≡ []
-unread owner [] e = refl
-unread owner (w ∷ l) e = cc
+pub no_reading : (owner : Option Record) (l : Words)
+    → None ≡ line_reading desk_limits owner l → l ≡ []
+no_reading owner [] e = refl
+no_reading owner (w ∷ l) e = cc
 
 -- the owner below a line that was read
 pub next_owner : (owner : Option Record) (l : Words) (reading : Reading)

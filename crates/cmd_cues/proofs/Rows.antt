@@ -6,7 +6,7 @@ use Rattle.show_line.specs.declared.statement.Record.TheVariants.{Cue, Group, Su
 use Rattle.cmd_explain.specs.Decimals.{decimal_text}
 use Rattle.cmd_cues.specs.Json.{items_text, string_text}
 use Rattle.cmd_cues.specs.Labels.{label_after}
-use Rattle.cmd_cues.specs.Table.{cue_line}
+use Rattle.cmd_cues.specs.Table.{cue_table_line}
 
 -- the last line stands first
 labels : (label_after (codes "CUE 1 ! one" ∷ []) (Cue 1000) ≡ codes "one")
@@ -29,7 +29,7 @@ strings : string_text (34 ∷ 92 ∷ 9 ∷ 65 ∷ 233 ∷ []) ≡ codes "\"\\\"\
 unfolding encode_with
 strings = refl
 
-lines : cue_line (λ _. codes "dawn") (record {
+lines : cue_table_line (λ _. codes "dawn") (record {
   number = 250;
   up = record { time = 2500; delay = 0 };
   down = record { time = 90000; delay = 50 };

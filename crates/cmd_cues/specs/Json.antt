@@ -38,47 +38,47 @@ abbrev pub follow_text : Option ℕ → List ℕ
 follow_text follow = option_map_or decimal_text follow (codes "null")
 
 -- a rate: its time, by this name, and its delay, in seconds
-abbrev pub rate_text : List ℕ → Rate → List ℕ
-rate_text name rate =
+abbrev pub rate_members : List ℕ → Rate → List ℕ
+rate_members name rate =
     codes ",\"" ++ name ++ codes "\":" ++ decimal_text rate.time ++ codes ",\"" ++ name
     ++ codes "_delay\":" ++ decimal_text rate.delay
 
 -- a cue: its number is a string
-abbrev pub cue_text : (Record → List ℕ) → CueRow → List ℕ
-cue_text label cue =
+abbrev pub cue_object : (Record → List ℕ) → CueRow → List ℕ
+cue_object label cue =
     codes "{\"number\":\"" ++ decimal_text cue.number
     ++ codes "\",\"label\":" ++ string_text (label (Cue cue.number))
-    ++ rate_text (codes "up") cue.up ++ rate_text (codes "down") cue.down
+    ++ rate_members (codes "up") cue.up ++ rate_members (codes "down") cue.down
     ++ codes ",\"follow\":" ++ follow_text cue.follow
     ++ codes ",\"channels\":" ++ decimal cue.channels ++ codes "}"
 
 -- a submaster or group
-abbrev pub master_text : (ℕ → List ℕ) → ℕ × LevelMap → List ℕ
-master_text label e =
+abbrev pub master_object : (ℕ → List ℕ) → ℕ × LevelMap → List ℕ
+master_object label e =
     codes "{\"number\":" ++ decimal e.0
     ++ codes ",\"label\":" ++ string_text (label e.0)
     ++ codes ",\"channels\":" ++ decimal (maps.len e.1) ++ codes "}"
 
 -- a universe: its number, with 1 that of ordinal 0, and how many dimmers are patched
-abbrev pub universe_text : PatchMap → ℕ → List ℕ
-universe_text patch ordinal =
+abbrev pub universe_object : PatchMap → ℕ → List ℕ
+universe_object patch ordinal =
     codes "{\"universe\":" ++ decimal (ordinal + 1)
     ++ codes ",\"dimmers\":" ++ decimal (dimmer_count patch ordinal) ++ codes "}"
 
 -- a patched dimmer: its channel, and the byte that full means
-abbrev pub dimmer_text : ℕ × (ℕ × ℕ) → List ℕ
-dimmer_text e =
+abbrev pub dimmer_object : ℕ × (ℕ × ℕ) → List ℕ
+dimmer_object e =
     codes "{\"dimmer\":" ++ decimal e.0 ++ codes ",\"channel\":" ++ decimal e.1.0
     ++ codes ",\"level\":" ++ decimal e.1.1 ++ codes "}"
 
 -- the object of a show
 abbrev pub json_text : (Record → List ℕ) → Tables → List ℕ
 json_text label show =
-    codes "{\"cues\":" ++ array_text (cue_text label) (cue_rows show.cues)
+    codes "{\"cues\":" ++ array_text (cue_object label) (cue_rows show.cues)
     ++ codes ",\n\"submasters\":"
-    ++ array_text (master_text (λ n. label (Sub n))) (maps.entries show.subs)
+    ++ array_text (master_object (λ n. label (Sub n))) (maps.entries show.subs)
     ++ codes ",\n\"groups\":"
-    ++ array_text (master_text (λ n. label (Group n))) (maps.entries show.groups)
+    ++ array_text (master_object (λ n. label (Group n))) (maps.entries show.groups)
     ++ codes ",\n\"universes\":"
-    ++ array_text (universe_text show.patch) (patch_ordinals show.patch)
-    ++ codes ",\n\"patch\":" ++ array_text dimmer_text (maps.entries show.patch) ++ codes "}\n"
+    ++ array_text (universe_object show.patch) (patch_ordinals show.patch)
+    ++ codes ",\n\"patch\":" ++ array_text dimmer_object (maps.entries show.patch) ++ codes "}\n"

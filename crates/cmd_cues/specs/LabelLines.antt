@@ -45,5 +45,5 @@ label_by lines r =
 
 -- each record has the labels of both kinds that lines of a text give to it
 abbrev pub AreOf : List (List ℕ) → List LabelLine → Type 0
-AreOf lines said =
-    (r : Record) (kind : LabelKind) → last_label_by r kind said ≡ last_label r kind lines
+AreOf lines label_lines =
+    (r : Record) (kind : LabelKind) → last_label_by r kind label_lines ≡ last_label r kind lines

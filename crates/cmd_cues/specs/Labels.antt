@@ -3,7 +3,6 @@ use Rattle.std.specs.Prelude.{ℕ, ◌-◌, Bool, false, ◌==◌, ◌&&◌, ◌
 use Rattle.std.specs.Prelude.{codes, drop, length, reverse, take, Option, Some, None, unwrap_or}
 use Rattle.std.specs.List.{after_first, before_first, prefix_len, suffix_len}
 use Rattle.std.specs.Option.{option_map_or, option_or}
-use Rattle.ascii_text.specs.Forms.{same_word}
 use Rattle.ascii_text.specs.Text.{is_bang, is_separator, is_word, lines_of, words_of}
 use Rattle.show_line.specs.declared.statement.Record.{Record}
 use Rattle.show_line.specs.declared.statement.Statement.{Statement}
@@ -14,6 +13,7 @@ use Rattle.show_reader.specs.Keys.{table_of}
 use Rattle.show_reader.specs.Meaning.{News, Is, Gone, Silent, after, empties, same_record}
 use Rattle.show_reader.specs.Reading.{lines_read}
 use Rattle.show_reader.specs.Text.{Words, owner_below, statement_below}
+use Rattle.cmd_explain.specs.Headings.{begins_with_word}
 use Rattle.cmd_explain.specs.Skipped.{words_in}
 use Rattle.cmd_cues.specs.declared.label_line.LabelKind.{LabelKind}
 use Rattle.cmd_cues.specs.declared.label_line.LabelKind.TheVariants.{Text, Comment}
@@ -42,17 +42,12 @@ label_part Comment line = inner (after_first is_bang line)
 
 -- ---- what a line says of labels
 
--- the first word is TEXT
-abbrev pub is_text : Words → Bool
-is_text [] = false
-is_text (word ∷ words) = same_word word (codes "text")
-
 -- the record that a line may label, by what it says and the record that owns it: a CUE, SUB or
 -- GROUP line the one that it opens, and a TEXT line its owner
-abbrev pub record_named : LabelKind → Option Record → Statement → Words → Option Record
-record_named Comment owner (Opens r) l = Some r
-record_named Text owner Quiet l = if is_text l then owner else None
-record_named _ owner s l = None
+abbrev pub record_to_label : LabelKind → Option Record → Statement → Words → Option Record
+record_to_label Comment owner (Opens r) l = Some r
+record_to_label Text owner Quiet l = if begins_with_word (codes "text") l then owner else None
+record_to_label _ owner s l = None
 
 -- it may label this record
 abbrev pub names : Record → Option Record → Bool
@@ -68,7 +63,8 @@ clears table _ = false
 abbrev pub label_news_of : Record → LabelKind → Option Record → Statement → List ℕ → News (List ℕ)
 label_news_of r kind owner s line =
     if clears (table_of r) s then Gone
-    else (if names r (record_named kind owner s (words_of line)) && is_word (label_part kind line)
+    else (if names r (record_to_label kind owner s (words_of line))
+    && is_word (label_part kind line)
     then Is (label_part kind line)
     else Silent)
 

@@ -5,6 +5,7 @@ ghost use Rattle.cmd_cues.specs.Rows.{cue_row, cue_rows, dimmer_count};
 ghost use Rattle.show.specs.Readers.{ordinal_of};
 ghost use Rattle.cmd_cues.specs.Masters.{record_in};
 
+use cmd_explain::cue_numbers;
 use show::{Cue, Levels, Rate, Show};
 use show_line::Record;
 use std::alloc::{AllocError, Global};
@@ -24,14 +25,10 @@ pub struct CueRow {
 pub fn cue_rows(alloc: Global, show: &Show) -> Result<Vec<CueRow>, AllocError>
     ensures { IfOk result (λ rows. rows.items ≡ cue_rows show.now.cues) }
 {
+    let numbers = cue_numbers(alloc, show)?;
     let mut rows = Vec::new(alloc);
-    let mut next = show.next(0);
-    for _row in 0..show.counts().cues {
-        let Some(number) = next else {
-            return Ok(rows);
-        };
-        push_cue_row(&mut rows, show, number)?;
-        next = show.next(number);
+    for number in &numbers {
+        push_cue_row(&mut rows, show, *number)?;
     }
     Ok(rows)
 }

@@ -3,9 +3,9 @@ ghost use Rattle.std.specs.Prelude.{if◌then◌else◌};
 ghost use Rattle.hex.specs.Hex.{encode_lower};
 ghost use Rattle.cmd_cues.specs.LabelLines.{label_by};
 ghost use Rattle.cmd_cues.specs.Masters.{record_in};
-ghost use Rattle.cmd_cues.specs.Json.{array_text, cue_text, dimmer_text, follow_text};
-ghost use Rattle.cmd_cues.specs.Json.{json_text, master_text, string_byte, string_text};
-ghost use Rattle.cmd_cues.specs.Json.{rate_text, universe_text};
+ghost use Rattle.cmd_cues.specs.Json.{array_text, cue_object, dimmer_object, follow_text};
+ghost use Rattle.cmd_cues.specs.Json.{json_text, master_object, string_byte, string_text};
+ghost use Rattle.cmd_cues.specs.Json.{rate_members, universe_object};
 
 use crate::cue_rows::{CueRow, Masters, channel_count, cue_rows, dimmer_count};
 use crate::labels::Labels;
@@ -51,7 +51,7 @@ fn push_break(text: &mut Vec<u8>, place: usize) -> Result<(), AllocError>
 
 fn push_cues(text: &mut Vec<u8>, cues: &[CueRow], labels: &Labels<'_>) -> Result<(), AllocError>
     ensures { OnOk result (text.new.items ≡ text.old.items
-        ++ array_text (cue_text (label_by labels.now.lines.items)) cues.now) }
+        ++ array_text (cue_object (label_by labels.now.lines.items)) cues.now) }
 {
     text.push(b'[')?;
     for (place, cue) in cues.iter().enumerate() {
@@ -64,7 +64,7 @@ fn push_cues(text: &mut Vec<u8>, cues: &[CueRow], labels: &Labels<'_>) -> Result
 
 fn push_cue(text: &mut Vec<u8>, cue: &CueRow, labels: &Labels<'_>) -> Result<(), AllocError>
     ensures { OnOk result (text.new.items ≡ text.old.items
-        ++ cue_text (label_by labels.now.lines.items) cue.now) }
+        ++ cue_object (label_by labels.now.lines.items) cue.now) }
 {
     text.extend_from_slice(b"{\"number\":\"")?;
     push_decimal(text, cue.number)?;
@@ -81,7 +81,7 @@ fn push_cue(text: &mut Vec<u8>, cue: &CueRow, labels: &Labels<'_>) -> Result<(),
 }
 
 fn push_rate(text: &mut Vec<u8>, name: &[u8], rate: Rate) -> Result<(), AllocError>
-    ensures { OnOk result (text.new.items ≡ text.old.items ++ rate_text name.now rate) }
+    ensures { OnOk result (text.new.items ≡ text.old.items ++ rate_members name.now rate) }
 {
     text.extend_from_slice(b",\"")?;
     text.extend_from_slice(name)?;
@@ -109,7 +109,7 @@ fn push_masters(
     labels: &Labels<'_>,
 ) -> Result<(), AllocError>
     ensures { OnOk result (text.new.items ≡ text.old.items
-        ++ array_text (master_text (λ n. label_by labels.now.lines.items (record_in of n)))
+        ++ array_text (master_object (λ n. label_by labels.now.lines.items (record_in of n)))
         masters.now) }
 {
     text.push(b'[')?;
@@ -129,7 +129,7 @@ fn push_master(
     labels: &Labels<'_>,
 ) -> Result<(), AllocError>
     ensures { OnOk result (text.new.items ≡ text.old.items
-        ++ master_text (λ n. label_by labels.now.lines.items (record_in of n))
+        ++ master_object (λ n. label_by labels.now.lines.items (record_in of n))
         (number, levels.now)) }
 {
     text.extend_from_slice(b"{\"number\":")?;
@@ -144,7 +144,7 @@ fn push_master(
 
 fn push_universes(text: &mut Vec<u8>, show: &Show, ordinals: &[u16]) -> Result<(), AllocError>
     ensures { OnOk result (text.new.items ≡ text.old.items
-        ++ array_text (universe_text show.now.patch) ordinals.now) }
+        ++ array_text (universe_object show.now.patch) ordinals.now) }
 {
     text.push(b'[')?;
     for (place, ordinal) in ordinals.iter().enumerate() {
@@ -157,7 +157,7 @@ fn push_universes(text: &mut Vec<u8>, show: &Show, ordinals: &[u16]) -> Result<(
 
 fn push_universe(text: &mut Vec<u8>, show: &Show, ordinal: u16) -> Result<(), AllocError>
     ensures { OnOk result (text.new.items ≡ text.old.items
-        ++ universe_text show.now.patch ordinal) }
+        ++ universe_object show.now.patch ordinal) }
 {
     text.extend_from_slice(b"{\"universe\":")?;
     push_number(text, u64::from(ordinal) + 1)?;
@@ -168,7 +168,7 @@ fn push_universe(text: &mut Vec<u8>, show: &Show, ordinal: u16) -> Result<(), Al
 }
 
 fn push_dimmers(text: &mut Vec<u8>, patch: &[(u16, (u16, u8))]) -> Result<(), AllocError>
-    ensures { OnOk result (text.new.items ≡ text.old.items ++ array_text dimmer_text patch.now) }
+    ensures { OnOk result (text.new.items ≡ text.old.items ++ array_text dimmer_object patch.now) }
 {
     text.push(b'[')?;
     for (place, entry) in patch.iter().enumerate() {
@@ -180,7 +180,7 @@ fn push_dimmers(text: &mut Vec<u8>, patch: &[(u16, (u16, u8))]) -> Result<(), Al
 }
 
 fn push_dimmer(text: &mut Vec<u8>, entry: (u16, (u16, u8))) -> Result<(), AllocError>
-    ensures { OnOk result (text.new.items ≡ text.old.items ++ dimmer_text entry) }
+    ensures { OnOk result (text.new.items ≡ text.old.items ++ dimmer_object entry) }
 {
     let (dimmer, (channel, level)) = entry;
     text.extend_from_slice(b"{\"dimmer\":")?;

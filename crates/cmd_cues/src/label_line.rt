@@ -1,16 +1,15 @@
 ghost use Rattle.std.specs.Prelude.{◌≡◌, option_map};
-ghost use Rattle.ascii_text.specs.Text.{words_of};
 ghost use Rattle.show_line.specs.declared.statement.Record.{Record};
 ghost use Rattle.show_line.specs.declared.statement.Statement.TheVariants.{Quiet};
 ghost use Rattle.show_reader.specs.Keys.{table_of};
 ghost use Rattle.show_reader.specs.Meaning.{after, empties, same_record};
 ghost use Rattle.cmd_cues.specs.declared.label_line.LabelKind.{LabelKind};
-ghost use Rattle.cmd_cues.specs.Labels.{is_text, label_news_of, label_part};
+ghost use Rattle.cmd_cues.specs.Labels.{label_news_of, label_part};
 ghost use Rattle.cmd_cues.specs.LabelLines.{label_if, line_news, news_in};
 ghost use Rattle.cmd_cues.specs.declared.label_line.LabelKind.TheVariants.{Text, Comment};
 
 use crate::label_part::label_part;
-use ascii_text::{Words, same_word};
+use cmd_explain::{begins_with_word, is_same_record};
 use show_line::{Cleared, Record, Statement, Table};
 
 /// Where a label stands: on a TEXT line, or in the comment of a CUE, SUB or GROUP line.
@@ -61,7 +60,7 @@ fn text_label<'a>(owner: Option<Record>, line: &'a [u8]) -> Option<LabelLine<'a>
     let Some(of) = owner else {
         return None;
     };
-    if is_text(line) {
+    if begins_with_word(line, b"text") {
         label(of, LabelKind::Text, line)
     } else {
         None
@@ -81,15 +80,6 @@ fn label<'a>(of: Record, kind: LabelKind, line: &'a [u8]) -> Option<LabelLine<'a
     }
 }
 
-fn is_text(line: &[u8]) -> bool
-    ensures { result ≡ is_text (words_of line.now) }
-{
-    match Words::new(line).next() {
-        Some(word) => same_word(word, b"text"),
-        None => false,
-    }
-}
-
 impl<'a> LabelLine<'a> {
     /// Changes the labels of a record by what the line says of them.
     pub fn apply(&self, of: Record, candidates: &mut Candidates<'a>)
@@ -99,10 +89,10 @@ impl<'a> LabelLine<'a> {
             (line_news of Comment self.now) (option_map (λ b. b.now) candidates.old.comment) }
     {
         match *self {
-            LabelLine::Label(named, LabelKind::Text, bytes) if same_record(of, named) => {
+            LabelLine::Label(named, LabelKind::Text, bytes) if is_same_record(of, named) => {
                 candidates.text = Some(bytes);
             }
-            LabelLine::Label(named, LabelKind::Comment, bytes) if same_record(of, named) => {
+            LabelLine::Label(named, LabelKind::Comment, bytes) if is_same_record(of, named) => {
                 candidates.comment = Some(bytes);
             }
             LabelLine::Clear(what) if is_empty_after(what, of) => {
@@ -111,16 +101,6 @@ impl<'a> LabelLine<'a> {
             }
             _ => {}
         }
-    }
-}
-
-fn same_record(one: Record, other: Record) -> bool
-    ensures { result ≡ same_record one other }
-{
-    match (one, other) {
-        (Record::Cue(m), Record::Cue(n)) => m == n,
-        (Record::Group(m), Record::Group(n)) | (Record::Sub(m), Record::Sub(n)) => m == n,
-        _ => false,
     }
 }
 

@@ -1,13 +1,13 @@
 ghost use Rattle.std.specs.Prelude.{◌≡◌, ◌++◌, IfOk, OnOk, codes, flat_map, take};
 ghost use Rattle.cmd_cues.specs.LabelLines.{label_by};
 ghost use Rattle.cmd_cues.specs.Masters.{masters_head, record_in};
-ghost use Rattle.cmd_cues.specs.Table.{cue_line, follow_cell, label_cell, master_line};
-ghost use Rattle.cmd_cues.specs.Table.{rate_cells, section, table_text, universe_line};
+ghost use Rattle.cmd_cues.specs.Table.{cue_table_line, follow_cell, label_cell, master_table_line};
+ghost use Rattle.cmd_cues.specs.Table.{rate_cells, section, table_text, universe_table_line};
 
 use crate::cell::{push_cell, push_decimal_cell, push_number_cell};
 use crate::cue_rows::{CueRow, Masters, channel_count, cue_rows, dimmer_count};
 use crate::labels::Labels;
-use cmd_explain::push_shown;
+use cmd_explain::push_display_text;
 use show::{Levels, Rate, Show};
 use show_line::Record;
 use std::alloc::{AllocError, Global};
@@ -36,7 +36,7 @@ fn push_cues(
     labels: &Labels<'_>,
 ) -> Result<(), AllocError>
     ensures { OnOk result (text.new.items ≡ text.old.items
-        ++ flat_map (cue_line (label_by labels.now.lines.items)) cues.now) }
+        ++ flat_map (cue_table_line (label_by labels.now.lines.items)) cues.now) }
 {
     for cue in cues {
         push_cue(alloc, text, cue, labels)?;
@@ -51,7 +51,7 @@ fn push_cue(
     labels: &Labels<'_>,
 ) -> Result<(), AllocError>
     ensures { OnOk result (text.new.items ≡ text.old.items
-        ++ cue_line (label_by labels.now.lines.items) cue.now) }
+        ++ cue_table_line (label_by labels.now.lines.items) cue.now) }
 {
     push_decimal_cell(alloc, text, 8, cue.number)?;
     push_rate(alloc, text, cue.up)?;
@@ -86,7 +86,7 @@ fn push_label(text: &mut Vec<u8>, label: &[u8]) -> Result<(), AllocError>
         return Ok(());
     }
     text.extend_from_slice(b"  ")?;
-    push_shown(text, first_bytes(label))
+    push_display_text(text, first_bytes(label))
 }
 
 // What is shown of a label.
@@ -104,7 +104,7 @@ fn push_masters(
     labels: &Labels<'_>,
 ) -> Result<(), AllocError>
     ensures { OnOk result (text.new.items ≡ text.old.items ++ section (masters_head of)
-        (master_line (λ n. label_by labels.now.lines.items (record_in of n))) masters.now) }
+        (master_table_line (λ n. label_by labels.now.lines.items (record_in of n))) masters.now) }
 {
     if masters.is_empty() {
         return Ok(());
@@ -133,7 +133,7 @@ fn push_master(
     labels: &Labels<'_>,
 ) -> Result<(), AllocError>
     ensures { OnOk result (text.new.items ≡ text.old.items
-        ++ master_line (λ n. label_by labels.now.lines.items (record_in of n))
+        ++ master_table_line (λ n. label_by labels.now.lines.items (record_in of n))
         (number, levels.now)) }
 {
     push_number_cell(text, 9, u64::from(number))?;
@@ -146,7 +146,8 @@ fn push_master(
 // The head of universes, and a line for each; nothing where there are none.
 fn push_universes(text: &mut Vec<u8>, show: &Show, ordinals: &[u16]) -> Result<(), AllocError>
     ensures { OnOk result (text.new.items ≡ text.old.items
-        ++ section (codes "\n universe   dimmers\n") (universe_line show.now.patch) ordinals.now) }
+        ++ section (codes "\n universe   dimmers\n") (universe_table_line show.now.patch)
+        ordinals.now) }
 {
     if ordinals.is_empty() {
         return Ok(());
@@ -160,7 +161,7 @@ fn push_universes(text: &mut Vec<u8>, show: &Show, ordinals: &[u16]) -> Result<(
 
 fn push_universe(text: &mut Vec<u8>, show: &Show, ordinal: u16) -> Result<(), AllocError>
     ensures { OnOk result (text.new.items ≡ text.old.items
-        ++ universe_line show.now.patch ordinal) }
+        ++ universe_table_line show.now.patch ordinal) }
 {
     push_number_cell(text, 9, u64::from(ordinal) + 1)?;
     push_number_cell(text, 10, dimmer_count(show, ordinal))?;

@@ -1,14 +1,14 @@
 -- The cues one after the other: from each the least one above it, which is found where it lies.
-use Rattle.std.proofs.Common.{◌≡◌, ℕ, ◌+◌, ◌<◌, ◌≤◌, T, IsTrue, List, [], ◌∷◌, ◌++◌}
+use Rattle.std.proofs.Common.{◌≡◌, ℕ, ◌+◌, ◌<◌, ◌≤◌, T, IsTrue, List, [], ◌∷◌, ◌++◌, take, drop}
 use Rattle.std.proofs.Common.{length, length-append, Option, Some, None, refl, ap, sym, subst, ◌∙◌}
-use Rattle.std.proofs.Common.{arith}
+use Rattle.std.proofs.Common.{arith, get_or}
 use Rattle.std.specs.Prelude.{All, find, map, nat_lt}
 use Rattle.std.specs.Ordering.{nat_cmp}
 use Rattle.std.specs.Cmp.{unsigned_tied}
 use Rattle.std.specs.FinMap as maps
 use Rattle.std.specs.FinMap.Entries.{below_all}
 use Rattle.std.proofs.lemmas.Bool.Decides.{nat_tests}
-use Rattle.std.proofs.lemmas.List.{append-nil}
+use Rattle.std.proofs.lemmas.List.{append-nil, drop_more, get_or-map, take-append-drop, take_more}
 use Rattle.show.specs.declared.cue.CueData.{CueData}
 use Rattle.show.specs.Numbers.{is_cue_number}
 use Rattle.show.specs.Readers.{cue_above}
@@ -51,14 +51,14 @@ module _ {V : Type 0} where
       grind (arith, nat_tests, rest)
 
   -- one of them is found at its key
-  pub found_here : (bs : List (ℕ × V)) (e : ℕ × V) (es : List (ℕ × V))
+  pub entry_here : (bs : List (ℕ × V)) (e : ℕ × V) (es : List (ℕ × V))
       → T (maps.is_sorted nat_cmp (bs ++ e ∷ es))
       → maps.find nat_cmp e.0 (bs ++ e ∷ es) ≡ Some e.1
-  found_here [] e es h = grind (arith, nat_tests, unsigned_tied e.0 e.0)
-  found_here (b ∷ bs) e es h =
+  entry_here [] e es h = grind (arith, nat_tests, unsigned_tied e.0 e.0)
+  entry_here (b ∷ bs) e es h =
       let lt : b.0 < e.0 = below_one b.0 bs e es (and_left _ _ h) in
       let rest : maps.find nat_cmp e.0 (bs ++ e ∷ es) ≡ Some e.1 =
-      found_here bs e es (and_right _ _ h) in
+      entry_here bs e es (and_right _ _ h) in
       grind (arith, nat_tests, unsigned_tied e.0 b.0, rest)
 
   -- the first of keys that are cue numbers is the least above 0
@@ -69,6 +69,31 @@ module _ {V : Type 0} where
   first_above_0 (e ∷ es) h =
       let here : IsTrue (is_cue_number e.0) = h 0 0 (omega arith) in
       grind (arith, nat_tests, here)
+
+-- the cue of each of the numbers
+pub entry_at : (cues : CueMap) (es : List (ℕ × CueData)) (i n : ℕ) → maps.entries cues ≡ es
+    → i < length es → n ≡ get_or (map (λ e. e.0) es) i n
+    → (cue : CueData) × record {
+      found : maps.get cues n ≡ Some cue;
+      more : take (i + 1) es ≡ take i es ++ (n, cue) ∷ [];
+    }
+entry_at cues [] i n all within is = absurd (omega (arith, within))
+entry_at cues (d ∷ ds) i n all within is =
+    let es = d ∷ ds in
+    let e = get_or es i d in
+    let key : n ≡ e.0 = is ∙ get_or-map (λ x. x.0) es i d n within in
+    let parts : maps.entries cues ≡ take i es ++ e ∷ drop (i + 1) es =
+    all ∙ sym (take-append-drop i es) ∙ ap (λ l. take i es ++ l) (drop_more es i d within) in
+    let sorted : T (maps.is_sorted nat_cmp (take i es ++ e ∷ drop (i + 1) es)) =
+    subst (λ l. T (maps.is_sorted nat_cmp l)) parts (maps.entries_sorted cues) in (
+      e.1,
+      record {
+        found =
+            ap (maps.get cues) key ∙ maps.get-entries cues e.0 ∙ ap (maps.find nat_cmp e.0) parts
+            ∙ entry_here (take i es) e (drop (i + 1) es) sorted;
+        more = take_more es i d within ∙ ap (λ k. take i es ++ (k, e.1) ∷ []) (sym key);
+      },
+    )
 
 -- where a cue is next, it is the first of the entries that are left, and the least above it is that
 -- of the next of these
@@ -91,7 +116,7 @@ next_cue cues done (e ∷ rest) n all is =
         found =
             maps.get-entries cues n ∙ ap (maps.find nat_cmp n) all
             ∙ ap (λ k. maps.find nat_cmp k (done ++ e ∷ rest)) (sym key)
-            ∙ found_here done e rest sorted;
+            ∙ entry_here done e rest sorted;
         next =
             ap (λ es. find (λ k. nat_lt n k) (map (λ x. x.0) es)) all
             ∙ ap (λ m. find (λ k. nat_lt m k) (map (λ x. x.0) (done ++ e ∷ rest))) (sym key)

@@ -5,5 +5,5 @@ pub mod NoteLines
 pub mod OneLine
 pub mod PartLists
 pub mod Pieces
-pub mod Told
+pub mod WholeText
 mod Rows

@@ -18,7 +18,7 @@ use Rattle.cmd_explain.specs.declared.heading.Heading.TheVariants as heading
 use Rattle.cmd_explain.specs.Headings.{heading_below, heading_by, heading_of, is_clear}
 use Rattle.cmd_explain.specs.Headings.{is_maker, keyword_in, operands, owner_of}
 use Rattle.cmd_explain.specs.Reasons.{reason_of}
-use Rattle.cmd_explain.specs.Skipped.{explained, line_explained, skipped_line, words_in}
+use Rattle.cmd_explain.specs.Skipped.{skipped_lines, skipped_line_below, skipped_line, words_in}
 
 -- ---- one line
 
@@ -81,8 +81,8 @@ module _ (lines : List (List ℕ)) (bytes : List ℕ) (above : Heading)
 
   module _ (reading : Reading) (read : Some reading ≡ line_reading desk_limits (owner_of above) l)
     where
-      pub said_is : reading.statement ≡ statement_below desk_limits (words_in lines) l
-      said_is =
+      pub statement_is : reading.statement ≡ statement_below desk_limits (words_in lines) l
+      statement_is =
           (reading_is (owner_of above) l reading read).statement
           ∙ ap (λ o. said_under desk_limits o l) (ap owner_of heads ∙ owner_is (words_in lines))
 
@@ -90,15 +90,15 @@ module _ (lines : List (List ℕ)) (bytes : List ℕ) (above : Heading)
       keyword_is = (reading_is (owner_of above) l reading read).keyword
 
       -- what is printed of it
-      pub explained_here : (number : ℕ) (b : Bool) → number ≡ length lines + 1
+      pub skipped_line_here : (number : ℕ) (b : Bool) → number ≡ length lines + 1
           → is_skipped reading.statement ≡ b
           → cond b (skipped_line number (reason_of above reading.keyword (operands l)) bytes) []
-          ≡ line_explained lines bytes
-      explained_here number b numbered skips =
+          ≡ skipped_line_below lines bytes
+      skipped_line_here number b numbered skips =
           let line : ℕ → Heading → Keyword → List ℕ =
           λ n h k. skipped_line n (reason_of h k (operands l)) bytes in
           ap (λ b'. cond b' (line number above reading.keyword) [])
-          (sym skips ∙ ap is_skipped said_is)
+          (sym skips ∙ ap is_skipped statement_is)
           ∙ ap (λ text. cond (is_skipped (statement_below desk_limits (words_in lines) l)) text [])
           (ap (λ n. line n above reading.keyword) numbered
           ∙ ap (line (length lines + 1) above) keyword_is
@@ -114,7 +114,7 @@ pub record StandsBehind (text : List ℕ) (count : ℕ) (lines left : List (List
   pub all : lines_of text ≡ reverse_aux lines left
   pub within : length lines ≤ count
   pub heads : above ≡ heading_below (words_in lines)
-  pub wrote : out ≡ explained lines
+  pub wrote : out ≡ skipped_lines lines
 
 -- numbered lines are a line and those behind it
 pub next_numbered : (n : ℕ) (left : List (List ℕ)) (number : ℕ) (bytes : List ℕ)
@@ -164,13 +164,13 @@ all_that_are_there text count lines whole within =
 module _ {text : List ℕ} {count : ℕ} {lines left : List (List ℕ)} {ahead : List (ℕ × List ℕ)}
     {above : Heading} {out : List ℕ} (h : StandsBehind text count lines left ahead above out) where
   -- so many lines are read
-  pub all_read : length lines ≡ count → out ≡ explained (reverse (take count (lines_of text)))
-  all_read is = h.wrote ∙ ap explained (all_that_are_read text count lines left h.all is)
+  pub all_read : length lines ≡ count → out ≡ skipped_lines (reverse (take count (lines_of text)))
+  all_read is = h.wrote ∙ ap skipped_lines (all_that_are_read text count lines left h.all is)
 
   -- the text has no line more
-  pub no_more : ahead ≡ [] → out ≡ explained (reverse (take count (lines_of text)))
+  pub no_more : ahead ≡ [] → out ≡ skipped_lines (reverse (take count (lines_of text)))
   no_more none =
       let empty : left ≡ [] = none_left (length lines + 1) left (sym h.numbered ∙ none) in
       h.wrote
-      ∙ ap explained (all_that_are_there text count lines
+      ∙ ap skipped_lines (all_that_are_there text count lines
       (h.all ∙ ap (reverse_aux lines) empty) h.within)

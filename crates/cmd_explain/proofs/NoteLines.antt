@@ -21,23 +21,25 @@ use Rattle.cmd_explain.specs.declared.heading.Heading.{Heading}
 use Rattle.cmd_explain.specs.declared.heading.Heading.TheVariants as heading
 use Rattle.cmd_explain.specs.declared.note_lines.LineNotes.{LineNotes}
 use Rattle.cmd_explain.specs.declared.openings.Openings.{Openings}
-use Rattle.cmd_explain.specs.CueParts.{CuePart, begins, newest_first, parts_begun, parts_below}
-use Rattle.cmd_explain.specs.CueParts.{parts_said}
+use Rattle.cmd_explain.specs.CueParts.{CuePart, part_of_line, newest_first, with_part, parts_below}
+use Rattle.cmd_explain.specs.CueParts.{parts_after}
 use Rattle.cmd_explain.specs.Headings.{heading_below, heading_of, is_unknown, keyword_in, owner_of}
-use Rattle.cmd_explain.specs.LineNotes.{told_of, said_by, link_told, link_note, times_text}
-use Rattle.cmd_explain.specs.LineNotes.{comma_told, comma_note, hour_by, hour_note, again_by}
+use Rattle.cmd_explain.specs.LineNotes.{notes_of_kind, desk_statement, link_note_on, link_note}
+use Rattle.cmd_explain.specs.LineNotes.{times_on}
+use Rattle.cmd_explain.specs.LineNotes.{comma_note_on, comma_note, hour_by, hour_note, again_by}
 use Rattle.cmd_explain.specs.LineNotes.{openings, openings_after}
 use Rattle.cmd_explain.specs.NotesOf.{AreMore, AreNotesOf, AreOpeningsOf, IsTaken}
 use Rattle.cmd_explain.specs.NotesOf.{unknown_count, unknown_in}
-use Rattle.cmd_explain.specs.NumberedLines.{AreNumberedOf, IsNumberedTaken, is_blank, list_above}
+use Rattle.cmd_explain.specs.NumberedLines.{AreNumberedOf, IsNumberedTaken, has_no_words}
+use Rattle.cmd_explain.specs.NumberedLines.{list_above}
 use Rattle.cmd_explain.specs.NumberedLines.{list_after, numbers_above, numbers_after, run_by}
 use Rattle.cmd_explain.specs.declared.numbered_lines.NumberedLines.{NumberedLines}
-use Rattle.cmd_explain.specs.PatchNotes.{ArePatchNotesOf, IsPatchTaken, patch_told}
+use Rattle.cmd_explain.specs.PatchNotes.{ArePatchNotesOf, IsPatchTaken, patch_note_on}
 use Rattle.cmd_explain.specs.PatchNotes.{sheet_after, sheet_below}
 use Rattle.cmd_explain.specs.declared.patch_notes.PatchNotes.{PatchNotes}
 use Rattle.cmd_explain.specs.Skipped.{words_in}
 use Rattle.cmd_explain.proofs.Lines.{all_that_are_read, all_that_are_there, keyword_is}
-use Rattle.cmd_explain.proofs.Lines.{none_left, reading_is, said_is}
+use Rattle.cmd_explain.proofs.Lines.{none_left, reading_is, statement_is}
 
 -- ---- what is read of a line
 
@@ -54,12 +56,12 @@ no_words owner (word ∷ words) e = cc
 
 -- what is read of a line has words
 pub has_words : (owner : Option Record) (l : Words) (reading : Reading)
-    → Some reading ≡ line_reading desk_limits owner l → is_blank l ≡ false
+    → Some reading ≡ line_reading desk_limits owner l → has_no_words l ≡ false
 has_words owner [] reading e = cc
 has_words owner (word ∷ words) reading e = refl
 
 -- no note is on a line without words
-pub no_link : (show : Tables) (n : ℕ) (h : Heading) → link_told show n h [] ≡ []
+pub no_link : (show : Tables) (n : ℕ) (h : Heading) → link_note_on show n h [] ≡ []
 no_link show n (heading.Opened (Cue c)) = refl
 no_link show n (heading.Opened (Group g)) = refl
 no_link show n (heading.Opened (Sub s)) = refl
@@ -74,16 +76,17 @@ more : {a b x y : List ℕ} → a ≡ b → x ≡ y → a ++ x ≡ b ++ y
 more {a} {b} {x} {y} e f = ap (λ l. l ++ x) e ∙ ap (λ l. b ++ l) f
 
 module _ (lines : List (List ℕ)) (bytes : List ℕ) (number : ℕ) (says : Statement)
-    (numbered : number ≡ length lines + 1) (is : says ≡ said_by lines bytes) where
-  comma_more : {old new : List ℕ} → old ≡ told_of comma_note lines
-      → new ≡ old ++ comma_told number (times_text says) bytes
-      → new ≡ told_of comma_note (bytes ∷ lines)
+    (numbered : number ≡ length lines + 1) (is : says ≡ desk_statement lines bytes) where
+  comma_more : {old new : List ℕ} → old ≡ notes_of_kind comma_note lines
+      → new ≡ old ++ comma_note_on number (times_on says) bytes
+      → new ≡ notes_of_kind comma_note (bytes ∷ lines)
   comma_more was e =
-      e ∙ more was (ap (λ n. comma_told n (times_text says) bytes) numbered
-      ∙ ap (λ s. comma_told (length lines + 1) (times_text s) bytes) is)
+      e ∙ more was (ap (λ n. comma_note_on n (times_on says) bytes) numbered
+      ∙ ap (λ s. comma_note_on (length lines + 1) (times_on s) bytes) is)
 
-  hour_more : {old new : List ℕ} → old ≡ told_of hour_note lines → new ≡ old ++ hour_by number says
-      → new ≡ told_of hour_note (bytes ∷ lines)
+  hour_more : {old new : List ℕ} → old ≡ notes_of_kind hour_note lines
+      → new ≡ old ++ hour_by number says
+      → new ≡ notes_of_kind hour_note (bytes ∷ lines)
   hour_more was e =
       e ∙ more was (ap (λ n. hour_by n says) numbered ∙ ap (hour_by (length lines + 1)) is)
 
@@ -113,14 +116,14 @@ module _ (lines : List (List ℕ)) (bytes : List ℕ) (number : ℕ) (says : Sta
         ∙ ap (λ s. sheet_after (length lines + 1) s (sheet_below lines)) is;
     notes =
         taken.notes ∙ more was.notes
-        (ap (patch_told number says) was.sheet
-        ∙ ap (λ n. patch_told n says (sheet_below lines)) numbered
-        ∙ ap (λ s. patch_told (length lines + 1) s (sheet_below lines)) is);
+        (ap (patch_note_on number says) was.sheet
+        ∙ ap (λ n. patch_note_on n says (sheet_below lines)) numbered
+        ∙ ap (λ s. patch_note_on (length lines + 1) s (sheet_below lines)) is);
   }
 
   numbered_more : {above : Heading} {k : Keyword} {old new : NumberedLines}
       → above ≡ heading_below (words_in lines) → k ≡ keyword_in (words_of bytes)
-      → is_blank (words_of bytes) ≡ false → AreNumberedOf lines old
+      → has_no_words (words_of bytes) ≡ false → AreNumberedOf lines old
       → IsNumberedTaken above number k says (words_of bytes) old new
       → AreNumberedOf (bytes ∷ lines) new
   numbered_more {above} {k} {old} {new} heads keyed words was taken =
@@ -134,7 +137,7 @@ module _ (lines : List (List ℕ)) (bytes : List ℕ) (number : ℕ) (says : Sta
             ∙ ap (λ k'. list_after h (length lines + 1) k' says l (list_above lines)) keyed
             ∙ ap (λ s. list_after h (length lines + 1) (keyword_in l) s l (list_above lines)) is
             ∙ ap (λ b. cond b (list_above lines) (list_after h (length lines + 1) (keyword_in l)
-            (said_by lines bytes) l (list_above lines))) (sym words);
+            (desk_statement lines bytes) l (list_above lines))) (sym words);
         numbers =
             taken.numbers ∙ ap (numbers_after above number k l) was.numbers
             ∙ ap (λ a. numbers_after a number k l (numbers_above lines)) heads
@@ -154,33 +157,35 @@ module _ (lines : List (List ℕ)) (bytes : List ℕ) (number : ℕ) (says : Sta
 
   parts_more : {above : Heading} {old begun new : List CuePart}
       → above ≡ heading_below (words_in lines) → old ≡ parts_below lines
-      → begun ≡ parts_begun (begins above number says (words_of bytes)) old
-      → new ≡ parts_said says begun → new ≡ parts_below (bytes ∷ lines)
+      → begun ≡ with_part (part_of_line above number says (words_of bytes)) old
+      → new ≡ parts_after says begun → new ≡ parts_below (bytes ∷ lines)
   parts_more {above} {old} {begun} {new} heads was first then =
       let l = words_of bytes in
       let h = heading_below (words_in lines) in
       then
-      ∙ ap (parts_said says) (first ∙ ap (parts_begun (begins above number says l)) was
-      ∙ ap (λ a. parts_begun (begins a number says l) (parts_below lines)) heads
-      ∙ ap (λ n. parts_begun (begins h n says l) (parts_below lines)) numbered)
-      ∙ ap (λ s. parts_said s (parts_begun (begins h (length lines + 1) s l) (parts_below lines)))
+      ∙ ap (parts_after says) (first ∙ ap (with_part (part_of_line above number says l)) was
+      ∙ ap (λ a. with_part (part_of_line a number says l) (parts_below lines)) heads
+      ∙ ap (λ n. with_part (part_of_line h n says l) (parts_below lines)) numbered)
+      ∙ ap (λ s. parts_after s
+      (with_part (part_of_line h (length lines + 1) s l) (parts_below lines)))
       is
 
   -- a line adds its notes
   module _ (show : Tables) (k : Keyword) (keyed : k ≡ keyword_in (words_of bytes))
-      (words : is_blank (words_of bytes) ≡ false) (old new : LineNotes)
+      (words : has_no_words (words_of bytes) ≡ false) (old new : LineNotes)
       (was : AreNotesOf show lines old) (parts : Vec Part Global)
       (begun : newest_first parts.items
-      ≡ parts_begun (begins old.above number says (words_of bytes)) (newest_first old.parts.items))
+      ≡ with_part (part_of_line old.above number says (words_of bytes))
+      (newest_first old.parts.items))
       (added : AreMore show number k says bytes (record old { parts = parts }) new)
       (above : Heading)
       (heads : above ≡ heading_below (words_in (bytes ∷ lines))) (unknown : ℕ)
       (counts : unknown ≡ unknown_count (bytes ∷ lines)) where
-    link_more : new.links.items ≡ told_of (link_note show) (bytes ∷ lines)
+    link_more : new.links.items ≡ notes_of_kind (link_note show) (bytes ∷ lines)
     link_more =
         added.links ∙ more was.links
-        (ap (λ n. link_told show n old.above (words_of bytes)) numbered
-        ∙ ap (λ h. link_told show (length lines + 1) h (words_of bytes)) was.heads)
+        (ap (λ n. link_note_on show n old.above (words_of bytes)) numbered
+        ∙ ap (λ h. link_note_on show (length lines + 1) h (words_of bytes)) was.heads)
 
     pub notes_more : AreNotesOf show (bytes ∷ lines)
         (record new { above = above; unknown_lines = unknown })
@@ -206,13 +211,13 @@ pub heading_more : (lines : List (List ℕ)) (bytes : List ℕ) (above : Heading
     ≡ heading_below (words_in (bytes ∷ lines))
 heading_more lines bytes above heads reading read =
     let k = keyword_is lines bytes above heads reading read in
-    let s = said_is lines bytes above heads reading read in
+    let s = statement_is lines bytes above heads reading read in
     ap (λ k'. cond (may_own k') (heading_of k' reading.statement) above) k
     ∙ ap (λ s'. cond (may_own (keyword_in (words_of bytes)))
     (heading_of (keyword_in (words_of bytes)) s') above) s
     ∙ ap (λ h. cond (may_own (keyword_in (words_of bytes)))
-    (heading_of (keyword_in (words_of bytes)) (said_by lines bytes)) h) heads
-    ∙ ap (λ b. cond b (heading_of (keyword_in (words_of bytes)) (said_by lines bytes))
+    (heading_of (keyword_in (words_of bytes)) (desk_statement lines bytes)) h) heads
+    ∙ ap (λ b. cond b (heading_of (keyword_in (words_of bytes)) (desk_statement lines bytes))
     (heading_below (words_in lines))) (sym (owns_is (words_of bytes)))
 
 -- ---- lines of unknown keywords
@@ -243,7 +248,7 @@ unknown_is owner h (word ∷ words) reading e =
 -- ---- all lines
 
 -- the text's lines are these and those that are left, with their numbers; the notes are on these
-pub record NotedBehind (show : Tables) (text : List ℕ) (count : ℕ) (lines left : List (List ℕ))
+pub record NotesBehind (show : Tables) (text : List ℕ) (count : ℕ) (lines left : List (List ℕ))
     (ahead : List (ℕ × List ℕ)) (notes : LineNotes) : Type 0 where
   pub numbered : ahead ≡ numbered_from (length lines + 1) left
   pub all : lines_of text ≡ reverse_aux lines left
@@ -252,11 +257,11 @@ pub record NotedBehind (show : Tables) (text : List ℕ) (count : ℕ) (lines le
 
 module _ {show : Tables} {text : List ℕ} {count : ℕ} {lines left : List (List ℕ)}
     {ahead : List (ℕ × List ℕ)} {notes : LineNotes}
-    (h : NotedBehind show text count lines left ahead notes) where
+    (h : NotesBehind show text count lines left ahead notes) where
   -- so many lines are read
-  pub all_noted : length lines ≡ count
+  pub notes_of_all : length lines ≡ count
       → AreNotesOf show (reverse (take count (lines_of text))) notes
-  all_noted is = subst (λ ls. AreNotesOf show ls notes)
+  notes_of_all is = subst (λ ls. AreNotesOf show ls notes)
       (all_that_are_read text count lines left h.all is) h.noted
 
   -- the text has no line more

@@ -4,18 +4,18 @@ use Rattle.std.specs.Prelude.{All}
 use Rattle.std.specs.List.{slice_index_or}
 use Rattle.std.proofs.lemmas.Bool.Decides.{nat_tests}
 use Rattle.std.proofs.lemmas.List.Elements.{All-map}
-use Rattle.cmd_explain.specs.Explained.{IsOneLine}
-use Rattle.cmd_explain.specs.Skipped.{shown, shown_byte}
+use Rattle.cmd_explain.specs.Explanation.{IsOneLine}
+use Rattle.cmd_explain.specs.Skipped.{display_text, display_byte}
 
-in_range : (byte : ℕ) → (32 ≤ shown_byte byte) × (shown_byte byte ≤ 126)
+in_range : (byte : ℕ) → (32 ≤ display_byte byte) × (display_byte byte ≤ 126)
 in_range byte = grind (arith, nat_tests)
 
-one_line : (bytes : List ℕ) → IsOneLine (shown bytes)
-one_line bytes = All-map (λ byte. (32 ≤ byte) × (byte ≤ 126)) shown_byte bytes
+one_line : (bytes : List ℕ) → IsOneLine (display_text bytes)
+one_line bytes = All-map (λ byte. (32 ≤ byte) × (byte ≤ 126)) display_byte bytes
     (λ k d within. in_range (slice_index_or bytes k d))
 
 -- so is each of some notes, as they are shown
 pub one_line_each : {X : Type 0} (text_of : X → List ℕ) (notes : List X)
-    → All IsOneLine (map (λ note. shown (text_of note)) notes)
-one_line_each text_of notes = All-map IsOneLine (λ note. shown (text_of note)) notes
+    → All IsOneLine (map (λ note. display_text (text_of note)) notes)
+one_line_each text_of notes = All-map IsOneLine (λ note. display_text (text_of note)) notes
     (λ k d within. one_line (text_of (slice_index_or notes k d)))

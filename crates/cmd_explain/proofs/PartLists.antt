@@ -8,25 +8,25 @@ use Rattle.std.proofs.lemmas.Bool.{eq-eqb, ne_eqb}
 use Rattle.std.proofs.lemmas.List.{append-nil, drop_more, flat_map_more, map-append, map_more}
 use Rattle.std.proofs.lemmas.List.{map_push, reverse-append, take-append-drop}
 use Rattle.std.proofs.lemmas.List.Elements.{filter-append}
-use Rattle.cmd_explain.specs.CueParts.{CuePart, last_changed, part_of}
+use Rattle.cmd_explain.specs.CueParts.{CuePart, change_last, part_of}
 use Rattle.cmd_explain.specs.declared.cue_parts.Part.{Part}
 
 module _ {X Y : Type 0} (test : Y → Bool) (f : X → Y) where
   -- what is kept of one more
-  pub kept_more : (xs : List X) (i : ℕ) (d : X) → i < length xs
+  pub filter_more : (xs : List X) (i : ℕ) (d : X) → i < length xs
       → filter test (map f (take (i + 1) xs))
       ≡ filter test (map f (take i xs))
       ++ cond (test (f (get_or xs i d))) (f (get_or xs i d) ∷ []) []
-  kept_more xs i d within =
+  filter_more xs i d within =
       ap (filter test) (map_more f xs i d within)
       ∙ filter-append test (map f (take i xs)) (f (get_or xs i d) ∷ [])
 
   -- what is kept before one, and from it on
-  pub kept_around : (xs : List X) (i : ℕ) (d : X) → i < length xs
+  pub filter_around : (xs : List X) (i : ℕ) (d : X) → i < length xs
       → filter test (map f xs)
       ≡ filter test (map f (take i xs))
       ++ filter test (map f (get_or xs i d ∷ drop (i + 1) xs))
-  kept_around xs i d within =
+  filter_around xs i d within =
       ap (λ ys. filter test (map f ys)) (sym (take-append-drop i xs))
       ∙ ap (filter test) (map-append f (take i xs) (drop i xs))
       ∙ filter-append test (map f (take i xs)) (map f (drop i xs))
@@ -44,20 +44,20 @@ module _ (cue : ℕ) (parts : List Part) (i : ℕ) (p : Part) (within : i < leng
       ≡ of_cue cue (take i parts) ++ part_of p ∷ of_cue cue (drop (i + 1) parts)
   first_of is =
       let rest = of_cue cue (drop (i + 1) parts) in
-      kept_around (λ (q : CuePart). q.cue == cue) part_of parts i p within
+      filter_around (λ (q : CuePart). q.cue == cue) part_of parts i p within
       ∙ ap (λ x. of_cue cue (take i parts) ++ of_cue cue (x ∷ drop (i + 1) parts)) (sym at)
       ∙ ap (λ b. of_cue cue (take i parts) ++ cond b (part_of p ∷ rest) rest) (eq-eqb p.cue cue is)
 
   more : of_cue cue (take (i + 1) parts) ≡ of_cue cue (take i parts) ++ of_cue cue (p ∷ [])
   more =
-      kept_more (λ (q : CuePart). q.cue == cue) part_of parts i p within
+      filter_more (λ (q : CuePart). q.cue == cue) part_of parts i p within
       ∙ ap (λ x. of_cue cue (take i parts) ++ of_cue cue (x ∷ [])) (sym at)
 
   -- a part of the cue is told behind those before it
-  pub told_more : p.cue ≡ cue → (tell : CuePart → List ℕ) (old : List ℕ) {a b : List ℕ}
+  pub tell_more : p.cue ≡ cue → (tell : CuePart → List ℕ) (old : List ℕ) {a b : List ℕ}
       → a ≡ old ++ flat_map tell (of_cue cue (take i parts)) → b ≡ a ++ tell (part_of p)
       → b ≡ old ++ flat_map tell (of_cue cue (take (i + 1) parts))
-  told_more is tell old was next =
+  tell_more is tell old was next =
       next ∙ ap (λ t. t ++ tell (part_of p)) was
       ∙ flat_map_more tell old (of_cue cue (take i parts)) (part_of p)
       ∙ ap (λ b. old ++ flat_map tell (of_cue cue (take i parts) ++ cond b (part_of p ∷ []) []))
@@ -65,10 +65,10 @@ module _ (cue : ℕ) (parts : List Part) (i : ℕ) (p : Part) (within : i < leng
       ∙ ap (λ ps. old ++ flat_map tell ps) (sym more)
 
   -- a part of another cue is not
-  pub told_same : (p.cue ≡ cue → ⊥) → (tell : CuePart → List ℕ) (old : List ℕ) {a : List ℕ}
+  pub tell_same : (p.cue ≡ cue → ⊥) → (tell : CuePart → List ℕ) (old : List ℕ) {a : List ℕ}
       → a ≡ old ++ flat_map tell (of_cue cue (take i parts))
       → a ≡ old ++ flat_map tell (of_cue cue (take (i + 1) parts))
-  told_same other tell old was =
+  tell_same other tell old was =
       was
       ∙ ap (λ ps. old ++ flat_map tell ps) (sym (more
       ∙ ap (λ b. of_cue cue (take i parts) ++ cond b (part_of p ∷ []) [])
@@ -82,14 +82,14 @@ newest_more parts p = ap reverse (map_push part_of parts p)
     ∙ reverse-append (map part_of parts) (part_of p ∷ [])
 
 -- the last part is changed
-pub changed_last : (change : CuePart → CuePart) (old new rest : List Part) (p q : Part)
+pub change_last_is : (change : CuePart → CuePart) (old new rest : List Part) (p q : Part)
     → old ≡ rest ++ p ∷ [] → new ≡ rest ++ q ∷ [] → part_of q ≡ change (part_of p)
-    → reverse (map part_of new) ≡ last_changed change (reverse (map part_of old))
-changed_last change old new rest p q was is same =
+    → reverse (map part_of new) ≡ change_last change (reverse (map part_of old))
+change_last_is change old new rest p q was is same =
     ap (λ ps. reverse (map part_of ps)) is ∙ newest_more rest q
     ∙ ap (λ x. x ∷ reverse (map part_of rest)) same
-    ∙ sym (ap (λ ps. last_changed change (reverse (map part_of ps))) was
-    ∙ ap (last_changed change) (newest_more rest p))
+    ∙ sym (ap (λ ps. change_last change (reverse (map part_of ps))) was
+    ∙ ap (change_last change) (newest_more rest p))
 
 -- tests that agree below a bound keep the same numbers below it
 pub same_below : (p q : ℕ → Bool) (a n : ℕ) → ((x : ℕ) → x < a + n → p x ≡ q x)

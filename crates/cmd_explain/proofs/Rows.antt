@@ -3,16 +3,16 @@ use Rattle.std.specs.Prelude.{◌≡◌, refl, codes, [], ◌∷◌, ◌++◌, l
 use Rattle.std.specs.Fmt.{digits}
 use Rattle.cmd_explain.specs.declared.reason.Reason.TheVariants as reason
 use Rattle.cmd_explain.specs.NumberedLines.{numbered_notes}
-use Rattle.cmd_explain.specs.Skipped.{explained, shown, skipped_line}
+use Rattle.cmd_explain.specs.Skipped.{skipped_lines, display_text, skipped_line}
 
 -- the last line stands first
-maker : explained (codes "CUE 1" ∷ codes "WHAT" ∷ codes "UP 5" ∷ codes "$EFFECT 3" ∷ [])
+maker : skipped_lines (codes "CUE 1" ∷ codes "WHAT" ∷ codes "UP 5" ∷ codes "$EFFECT 3" ∷ [])
     ≡ codes "line 1: of a maker's record: $EFFECT 3\n"
     ++ codes "line 2: of a maker's record: UP 5\nline 3: of a maker's record: WHAT\n"
 unfolding digits
 maker = refl
 
-pages : explained (codes "CHAN 1@FL" ∷ codes "CUE 2 2" ∷ codes "WHAT" ∷ codes "UP 5" ∷ [])
+pages : skipped_lines (codes "CHAN 1@FL" ∷ codes "CUE 2 2" ∷ codes "WHAT" ∷ codes "UP 5" ∷ [])
     ≡ codes "line 1: of no record: UP 5\nline 2: unknown keyword: WHAT\n"
     ++ codes "line 3: of page 2: CUE 2 2\nline 4: of a record that is skipped: CHAN 1@FL\n"
 unfolding digits
@@ -25,7 +25,7 @@ numbered = refl
 
 text : (skipped_line 12 reason.UnknownClear (codes "CLEAR x" ++ 13 ∷ [])
     ≡ codes "line 12: an unknown CLEAR: CLEAR x \n")
-    × (shown (9 ∷ 0 ∷ 31 ∷ 32 ∷ 126 ∷ 127 ∷ 255 ∷ []) ≡ codes " ?? ~??")
+    × (display_text (9 ∷ 0 ∷ 31 ∷ 32 ∷ 126 ∷ 127 ∷ 255 ∷ []) ≡ codes " ?? ~??")
     × (length (skipped_line 1 reason.NoRecord (replicate 201 65)) ≡ 223)
 unfolding digits
 text = (refl, refl, refl)

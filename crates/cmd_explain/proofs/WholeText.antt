@@ -8,12 +8,13 @@ use Rattle.show_reader.proofs.OneShow.{of_its_show}
 use Rattle.show_reader.specs.Reading.{lines_read}
 use Rattle.show_reader.specs.Shows.{IsShowOf}
 use Rattle.show_reader.specs.Text.{statements_of}
-use Rattle.cmd_explain.specs.Explained.{IsExplanationOf, IsOneLine, IsTextOf, note_line}
+use Rattle.cmd_explain.specs.Explanation.{IsExplanationOf, IsOneLine, IsTextOf}
 use Rattle.cmd_explain.specs.Encoding.{encoding_notes}
+use Rattle.cmd_explain.specs.LineNotes.{note_line}
 use Rattle.cmd_explain.specs.NotesOf.{line_notes}
 use Rattle.cmd_explain.specs.NumberedLines.{numbered_notes}
 use Rattle.cmd_explain.specs.ShowNotes.{show_notes}
-use Rattle.cmd_explain.specs.Skipped.{explained, shown}
+use Rattle.cmd_explain.specs.Skipped.{skipped_lines, display_text}
 use Rattle.cmd_explain.proofs.OneLine.{one_line_each}
 
 -- notes of one line each were put behind a text
@@ -23,25 +24,26 @@ pub record AddsNotes (old new : List ℕ) : Type 0 where
   pub is : new ≡ old ++ flat_map note_line notes
 
 pub adds : {X : Type 0} (text_of : X → List ℕ) (notes : List X) {old new : List ℕ}
-    → new ≡ old ++ flat_map note_line (map (λ note. shown (text_of note)) notes)
+    → new ≡ old ++ flat_map note_line (map (λ note. display_text (text_of note)) notes)
     → AddsNotes old new
 adds text_of notes e = record {
-  notes = map (λ note. shown (text_of note)) notes;
+  notes = map (λ note. display_text (text_of note)) notes;
   in_lines = one_line_each text_of notes;
   is = e;
 }
 
 module _ (text : List ℕ) (count : ℕ) (show : Tables) {a b n c d e skipped : List ℕ}
     (first : a ≡ encoding_notes text) (lines : b ≡ a ++ skipped)
-    (skips : skipped ≡ explained (reverse (take count (lines_of text))))
+    (skips : skipped ≡ skipped_lines (reverse (take count (lines_of text))))
     (numbered : n ≡ b ++ numbered_notes (reverse (take count (lines_of text))))
-    (second : AddsNotes n c) (on_lines : d ≡ c ++ line_notes show (reverse (take count (lines_of text))))
+    (second : AddsNotes n c)
+    (on_lines : d ≡ c ++ line_notes show (reverse (take count (lines_of text))))
     (on_show : e ≡ d ++ show_notes show) where
   abbrev s : List ℕ
-  s = explained (reverse (take count (lines_of text)))
+  s = skipped_lines (reverse (take count (lines_of text)))
 
-  pub told_whole : IsTextOf text count show e
-  told_whole = record {
+  pub whole_text : IsTextOf text count show e
+  whole_text = record {
     doubts = second.notes;
     doubts_in_lines = second.in_lines;
     text_is =

@@ -1,13 +1,12 @@
 -- The notes on parts of cues: all channels of a cue take its last UP and DOWN, whatever its parts
 -- say. Lists of lines and of parts have the last one first.
-use Rattle.std.specs.Prelude.{ℕ, ◌+◌, ◌==◌, ◌&&◌, ◌||◌, Bool, false, if◌then◌else◌}
+use Rattle.std.specs.Prelude.{ℕ, ◌+◌, ◌==◌, ◌&&◌, ◌||◌, Bool, if◌then◌else◌}
 use Rattle.std.specs.Prelude.{List, [], ◌∷◌, ◌++◌, Option, Some, None, is_some, unwrap_or}
 use Rattle.std.specs.Prelude.{option_map, codes, decimal, filter, flat_map, length, map, reverse}
 use Rattle.std.specs.Prelude.{take}
 use Rattle.std.specs.List.{fold, list_any, range_with_len}
 use Rattle.std.specs.Option.{option_or}
 use Rattle.std.specs.FinMap as maps
-use Rattle.ascii_text.specs.Forms.{same_word}
 use Rattle.ascii_text.specs.Text.{words_of}
 use Rattle.show.specs.declared.rate.Rate.{Rate}
 use Rattle.show.specs.Tables.{Tables}
@@ -23,9 +22,9 @@ use Rattle.cmd_explain.specs.declared.cue_parts.Times.{Times}
 use Rattle.cmd_explain.specs.declared.heading.Heading.{Heading}
 use Rattle.cmd_explain.specs.declared.heading.Heading.TheVariants as heading
 use Rattle.cmd_explain.specs.Decimals.{decimal_text}
-use Rattle.cmd_explain.specs.Headings.{heading_below, operands}
-use Rattle.cmd_explain.specs.LineNotes.{note_on, rate_text, said_by}
-use Rattle.cmd_explain.specs.Skipped.{shown, words_in}
+use Rattle.cmd_explain.specs.Headings.{begins_with_word, heading_below, operands}
+use Rattle.cmd_explain.specs.LineNotes.{note_on, rate_text, desk_statement}
+use Rattle.cmd_explain.specs.Skipped.{display_text, words_in}
 
 -- ---- parts
 
@@ -57,10 +56,6 @@ abbrev pub headed_cue : Heading → Option ℕ
 headed_cue (heading.Opened (Cue n)) = Some n
 headed_cue _ = None
 
-abbrev pub is_part : Words → Bool
-is_part [] = false
-is_part (word ∷ words) = same_word word (codes "part")
-
 -- the name of a part, by the words behind PART
 abbrev pub part_name : Words → List ℕ
 part_name [] = codes "?"
@@ -70,53 +65,55 @@ part_name (name ∷ words) = name
 abbrev pub part_by : Option ℕ → Option ℕ → ℕ → Words → Option CuePart
 part_by (Some n) headed number l = Some (new_part n number None)
 part_by None (Some n) number l =
-    if is_part l then Some (new_part n number (Some (part_name (operands l)))) else None
+    if begins_with_word (codes "part") l
+    then Some (new_part n number (Some (part_name (operands l)))) else None
 part_by None None number l = None
 
-abbrev pub begins : Heading → ℕ → Statement → Words → Option CuePart
-begins h number s l = part_by (opened_cue s) (headed_cue h) number l
+abbrev pub part_of_line : Heading → ℕ → Statement → Words → Option CuePart
+part_of_line h number s l = part_by (opened_cue s) (headed_cue h) number l
 
-abbrev pub parts_begun : Option CuePart → List CuePart → List CuePart
-parts_begun (Some p) parts = p ∷ parts
-parts_begun None parts = parts
+abbrev pub with_part : Option CuePart → List CuePart → List CuePart
+with_part (Some p) parts = p ∷ parts
+with_part None parts = parts
 
 -- ---- what lines say of the last one
 
-abbrev pub last_changed : (CuePart → CuePart) → List CuePart → List CuePart
-last_changed change [] = []
-last_changed change (p ∷ parts) = change p ∷ parts
+abbrev pub change_last : (CuePart → CuePart) → List CuePart → List CuePart
+change_last change [] = []
+change_last change (p ∷ parts) = change p ∷ parts
 
-abbrev pub with_up : Rate → CuePart → CuePart
-with_up rate p = record p { times = record { up = Some rate; down = p.times.down } }
+abbrev pub part_with_up : Rate → CuePart → CuePart
+part_with_up rate p = record p { times = record { up = Some rate; down = p.times.down } }
 
-abbrev pub with_down : Rate → CuePart → CuePart
-with_down rate p = record p { times = record { up = p.times.up; down = Some rate } }
+abbrev pub part_with_down : Rate → CuePart → CuePart
+part_with_down rate p = record p { times = record { up = p.times.up; down = Some rate } }
 
-abbrev pub with_pairs : List (ℕ × ℕ) → CuePart → CuePart
-with_pairs pairs p = record p { pairs = p.pairs ++ pairs }
+abbrev pub part_with_pairs : List (ℕ × ℕ) → CuePart → CuePart
+part_with_pairs pairs p = record p { pairs = p.pairs ++ pairs }
 
--- the levels of a cue
-abbrev pub parts_listed : Statement → List CuePart → List CuePart
-parts_listed (Levels (Cue n) pairs) parts = last_changed (with_pairs pairs) parts
-parts_listed _ parts = parts
+-- with the levels that a line gives to a cue
+abbrev pub parts_with_levels : Statement → List CuePart → List CuePart
+parts_with_levels (Levels (Cue n) pairs) parts = change_last (part_with_pairs pairs) parts
+parts_with_levels _ parts = parts
 
--- its times; or CLEAR empties the cues
-abbrev pub parts_timed : Statement → List CuePart → List CuePart
-parts_timed (Rises n rate) parts = last_changed (with_up rate) parts
-parts_timed (Falls n rate) parts = last_changed (with_down rate) parts
-parts_timed (Clears what) parts = if empties what Cues then [] else parts
-parts_timed _ parts = parts
+-- with its times; or CLEAR empties the cues
+abbrev pub parts_with_times : Statement → List CuePart → List CuePart
+parts_with_times (Rises n rate) parts = change_last (part_with_up rate) parts
+parts_with_times (Falls n rate) parts = change_last (part_with_down rate) parts
+parts_with_times (Clears what) parts = if empties what Cues then [] else parts
+parts_with_times _ parts = parts
 
-abbrev pub parts_said : Statement → List CuePart → List CuePart
-parts_said s parts = parts_listed s (parts_timed s parts)
+-- the parts behind a line that says this
+abbrev pub parts_after : Statement → List CuePart → List CuePart
+parts_after s parts = parts_with_levels s (parts_with_times s parts)
 
 -- the parts of the cues that are there behind lines
 abbrev pub parts_below : List (List ℕ) → List CuePart
 parts_below [] = []
 parts_below (line ∷ above) =
-    parts_said (said_by above line)
-    (parts_begun (begins (heading_below (words_in above)) (length above + 1) (said_by above line)
-    (words_of line)) (parts_below above))
+    parts_after (desk_statement above line)
+    (with_part (part_of_line (heading_below (words_in above)) (length above + 1)
+    (desk_statement above line) (words_of line)) (parts_below above))
 
 -- ---- times
 
@@ -153,9 +150,9 @@ last_times parts = fold (λ times p. times_or p.times times) no_times parts
 
 -- ---- the notes
 
-abbrev pub name_text : Option (List ℕ) → List ℕ
-name_text (Some name) = codes ", part " ++ shown (take 200 name)
-name_text None = codes ", before its parts"
+abbrev pub part_name_text : Option (List ℕ) → List ℕ
+part_name_text (Some name) = codes ", part " ++ display_text (take 200 name)
+part_name_text None = codes ", before its parts"
 
 -- the channels from 1 to 4096 that pairs list
 unfoldable pub channels_in : List (ℕ × ℕ) → List ℕ
@@ -181,7 +178,7 @@ moves_text None (Some down) = codes "DOWN " ++ rate_text down
 moves_text None None = codes "no time"
 
 abbrev pub part_subject : CuePart → List ℕ
-part_subject p = codes "cue " ++ decimal_text p.cue ++ name_text p.name ++ codes ": "
+part_subject p = codes "cue " ++ decimal_text p.cue ++ part_name_text p.name ++ codes ": "
 
 abbrev pub difference_text : Times → Times → List ℕ
 difference_text own times =
@@ -191,26 +188,27 @@ abbrev pub part_text : CuePart → Times → Times → List ℕ
 part_text p own times =
     part_subject p ++ channels_text (channels_in p.pairs) ++ difference_text own times
 
--- a part lists channels, and they take other times than its own
-abbrev pub part_told : CuePart → Times → Times → List ℕ
-part_told p own times =
+-- the note on a part: it lists channels, and they take other times than its own
+abbrev pub part_note : CuePart → Times → Times → List ℕ
+part_note p own times =
     if (length p.pairs == 0) || same_times own times then []
     else note_on p.line (part_text p own times)
 
 -- of the parts of a cue, the first one first; a part has the times of the first one where it has
 -- none of its own
-abbrev pub parts_told : List CuePart → List ℕ
-parts_told parts =
+abbrev pub cue_part_notes : List CuePart → List ℕ
+cue_part_notes parts =
     if list_any (λ p. is_some p.name) parts
-    then flat_map (λ p. part_told p (times_or p.times (first_times parts)) (last_times parts)) parts
+    then flat_map (λ p. part_note p (times_or p.times (first_times parts)) (last_times parts)) parts
     else []
 
 -- of all parts, the first one first, those of these cues
-abbrev pub cues_told : List CuePart → List ℕ → List ℕ
-cues_told parts numbers = flat_map (λ n. parts_told (filter (λ p. p.cue == n) parts)) numbers
+abbrev pub notes_on_cues : List CuePart → List ℕ → List ℕ
+notes_on_cues parts numbers =
+    flat_map (λ n. cue_part_notes (filter (λ p. p.cue == n) parts)) numbers
 
 abbrev pub part_notes : Tables → List (List ℕ) → List ℕ
-part_notes show lines = cues_told (reverse (parts_below lines)) (maps.keys show.cues)
+part_notes show lines = notes_on_cues (reverse (parts_below lines)) (maps.keys show.cues)
 
 -- ---- what is kept of lines
 

@@ -3,6 +3,7 @@ use Rattle.std.specs.Prelude.{ℕ, ◌==◌, ◌&&◌, ◌||◌, not, Bool, if�
 use Rattle.std.specs.Prelude.{Option, Some, None, codes, take}
 use Rattle.std.specs.List.{list_any, starts_with}
 use Rattle.std.specs.Option.{option_or}
+use Rattle.cmd_explain.specs.LineNotes.{note_line}
 
 abbrev pub begins_with : List ℕ → List ℕ → Bool
 begins_with bytes front = starts_with (λ a b. a == b) bytes front
@@ -28,7 +29,7 @@ has_cr_alone text = has_byte 13 text && not (has_byte 10 text)
 
 -- a note, where it applies
 abbrev pub note_if : Bool → List ℕ → List ℕ
-note_if applies note = if applies then codes "note: " ++ note ++ codes "\n" else []
+note_if applies note = if applies then note_line note else []
 
 abbrev pub mark_text : List ℕ
 mark_text =
@@ -73,5 +74,5 @@ kind_by_nul file =
     else (if has_byte 0 file then Some (codes "data that is no text") else None)
 
 -- what a file seems to be whose first 512 bytes are no text
-abbrev pub seeming : List ℕ → Option (List ℕ)
-seeming file = option_or (kind_in beginnings (take 512 file)) (kind_by_nul (take 512 file))
+abbrev pub likely_kind : List ℕ → Option (List ℕ)
+likely_kind file = option_or (kind_in beginnings (take 512 file)) (kind_by_nul (take 512 file))

@@ -10,14 +10,11 @@ use Rattle.show_line.specs.Said.{desk_limits}
 use Rattle.show_reader.specs.ItsShow.{OfItsShow}
 use Rattle.show_reader.specs.Reading.{lines_read}
 use Rattle.cmd_explain.specs.Encoding.{encoding_notes}
+use Rattle.cmd_explain.specs.LineNotes.{note_line}
 use Rattle.cmd_explain.specs.NotesOf.{line_notes}
 use Rattle.cmd_explain.specs.NumberedLines.{numbered_notes}
 use Rattle.cmd_explain.specs.ShowNotes.{show_notes}
-use Rattle.cmd_explain.specs.Skipped.{explained}
-
--- a note for the author of the show
-abbrev pub note_line : List ℕ → List ℕ
-note_line note = codes "note: " ++ note ++ codes "\n"
+use Rattle.cmd_explain.specs.Skipped.{skipped_lines}
 
 -- a text of one line: printable ASCII, so without LF
 abbrev pub IsOneLine : List ℕ → Type 0
@@ -40,7 +37,7 @@ pub record IsTextOf (text : List ℕ) (count : ℕ) (show : Tables) (told : List
   pub doubts : List (List ℕ)
   pub doubts_in_lines : All IsOneLine doubts
   pub text_is : told ≡ encoding_notes text
-      ++ explained (reverse (take count (lines_of text)))
+      ++ skipped_lines (reverse (take count (lines_of text)))
       ++ numbered_notes (reverse (take count (lines_of text)))
       ++ flat_map note_line doubts
       ++ line_notes show (reverse (take count (lines_of text)))

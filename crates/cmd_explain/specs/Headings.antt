@@ -1,6 +1,8 @@
 -- What heads a line of a show text: the nearest line above it that is primary or opens a maker's
 -- record. Lists of lines have the last line first.
-use Rattle.std.specs.Prelude.{Bool, true, false, if◌then◌else◌, List, [], ◌∷◌, Option, Some, None}
+use Rattle.std.specs.Prelude.{ℕ, Bool, true, false, if◌then◌else◌, List, [], ◌∷◌, Option, Some}
+use Rattle.std.specs.Prelude.{None}
+use Rattle.ascii_text.specs.Forms.{same_word}
 use Rattle.show_line.specs.declared.keyword.Keyword.{Keyword}
 use Rattle.show_line.specs.declared.keyword.Keyword.TheVariants as keyword
 use Rattle.show_line.specs.declared.statement.Record.{Record}
@@ -16,6 +18,11 @@ use Rattle.cmd_explain.specs.declared.heading.Heading.TheVariants as heading
 abbrev pub keyword_in : Words → Keyword
 keyword_in [] = keyword.Unknown
 keyword_in (word ∷ words) = keyword_of word
+
+-- the first word of a line is this one, in small or large letters
+abbrev pub begins_with_word : List ℕ → Words → Bool
+begins_with_word word [] = false
+begins_with_word word (first ∷ words) = same_word first word
 
 -- the words behind it
 abbrev pub operands : Words → Words
@@ -37,15 +44,15 @@ is_unknown h keyword.Unknown = true
 is_unknown h k = false
 
 -- a skipped line that may own: it opens a maker's record, or is a CLEAR, or of another page
-abbrev pub heading_skipped : Keyword → Heading
-heading_skipped k =
+abbrev pub skipped_heading : Keyword → Heading
+skipped_heading k =
     if is_maker k then heading.Maker
     else (if is_clear k then heading.Nothing else heading.OtherPage)
 
 -- a line that may own, by the record that it opens, and whether it is skipped
 abbrev pub heading_by : Option Record → Bool → Keyword → Heading
 heading_by (Some r) skipped k = heading.Opened r
-heading_by None skipped k = if skipped then heading_skipped k else heading.Nothing
+heading_by None skipped k = if skipped then skipped_heading k else heading.Nothing
 
 -- a line that may own, by its keyword and what it says
 abbrev pub heading_of : Keyword → Statement → Heading

@@ -9,5 +9,5 @@ pub mod PatchNotes
 pub mod NotesOf
 pub mod Encoding
 pub mod ShowNotes
-pub mod Explained
+pub mod Explanation
 pub mod Weights

@@ -11,11 +11,11 @@ use Rattle.show_reader.specs.Text.{Words}
 use Rattle.cmd_explain.specs.declared.heading.Heading.{Heading}
 use Rattle.cmd_explain.specs.declared.note_lines.LineNotes.{LineNotes}
 use Rattle.cmd_explain.specs.declared.openings.Openings.{Openings}
-use Rattle.cmd_explain.specs.CueParts.{newest_first, part_notes, parts_below, parts_said}
+use Rattle.cmd_explain.specs.CueParts.{newest_first, part_notes, parts_below, parts_after}
 use Rattle.cmd_explain.specs.Headings.{heading_below, is_unknown}
-use Rattle.cmd_explain.specs.LineNotes.{told_of, link_note, comma_note, again_note, hour_note}
-use Rattle.cmd_explain.specs.LineNotes.{openings, openings_after, again_by, link_told}
-use Rattle.cmd_explain.specs.LineNotes.{comma_told, times_text, hour_by}
+use Rattle.cmd_explain.specs.LineNotes.{notes_of_kind, link_note, comma_note, again_note, hour_note}
+use Rattle.cmd_explain.specs.LineNotes.{openings, openings_after, again_by, link_note_on}
+use Rattle.cmd_explain.specs.LineNotes.{comma_note_on, times_on, hour_by}
 use Rattle.cmd_explain.specs.NumberedLines.{AreNumberedOf, IsNumberedTaken}
 use Rattle.cmd_explain.specs.PatchNotes.{ArePatchNotesOf, IsPatchTaken, patch_note}
 use Rattle.cmd_explain.specs.Skipped.{words_in}
@@ -24,7 +24,7 @@ use Rattle.cmd_explain.specs.Skipped.{words_in}
 pub record AreOpeningsOf (table : Table) (lines : List (List ℕ)) (those : Openings) : Type 0 where
   pub of_table : those.table ≡ table
   pub list : those.list.items ≡ openings table lines
-  pub notes : those.notes.items ≡ told_of (again_note table) lines
+  pub notes : those.notes.items ≡ notes_of_kind (again_note table) lines
 
 -- what a line of this number adds, which says this
 pub record IsTaken (number : ℕ) (says : Statement) (old new : Openings) : Type 0 where
@@ -38,11 +38,11 @@ pub record AreMore (show : Tables) (number : ℕ) (k : Keyword) (says : Statemen
   pub above : new.above ≡ old.above
   pub numbered
       : IsNumberedTaken old.above number k says (words_of line) old.numbered new.numbered
-  pub parts : newest_first new.parts.items ≡ parts_said says (newest_first old.parts.items)
+  pub parts : newest_first new.parts.items ≡ parts_after says (newest_first old.parts.items)
   pub patches : IsPatchTaken number says old.patches new.patches
   pub links : new.links.items
-      ≡ old.links.items ++ link_told show number old.above (words_of line)
-  pub commas : new.commas.items ≡ old.commas.items ++ comma_told number (times_text says) line
+      ≡ old.links.items ++ link_note_on show number old.above (words_of line)
+  pub commas : new.commas.items ≡ old.commas.items ++ comma_note_on number (times_on says) line
   pub cues : IsTaken number says old.cues new.cues
   pub subs : IsTaken number says old.subs new.subs
   pub groups : IsTaken number says old.groups new.groups
@@ -69,20 +69,20 @@ pub record AreNotesOf (show : Tables) (lines : List (List ℕ)) (notes : LineNot
   pub numbered : AreNumberedOf lines notes.numbered
   pub parts : newest_first notes.parts.items ≡ parts_below lines
   pub patches : ArePatchNotesOf lines notes.patches
-  pub links : notes.links.items ≡ told_of (link_note show) lines
-  pub commas : notes.commas.items ≡ told_of comma_note lines
+  pub links : notes.links.items ≡ notes_of_kind (link_note show) lines
+  pub commas : notes.commas.items ≡ notes_of_kind comma_note lines
   pub cues : AreOpeningsOf Cues lines notes.cues
   pub subs : AreOpeningsOf Subs lines notes.subs
   pub groups : AreOpeningsOf Groups lines notes.groups
-  pub hours : notes.hours.items ≡ told_of hour_note lines
+  pub hours : notes.hours.items ≡ notes_of_kind hour_note lines
   pub unknown_lines : notes.unknown_lines ≡ unknown_count lines
 
 -- those on what single lines say, one kind behind the other
 abbrev pub statement_notes : Tables → List (List ℕ) → List ℕ
 statement_notes show lines =
-    told_of patch_note lines ++ told_of (link_note show) lines ++ told_of comma_note lines
-    ++ told_of (again_note Cues) lines ++ told_of (again_note Subs) lines
-    ++ told_of (again_note Groups) lines
+    notes_of_kind patch_note lines ++ notes_of_kind (link_note show) lines
+    ++ notes_of_kind comma_note lines ++ notes_of_kind (again_note Cues) lines
+    ++ notes_of_kind (again_note Subs) lines ++ notes_of_kind (again_note Groups) lines
 
 -- those of weight
 abbrev pub weighty_line_notes : Tables → List (List ℕ) → List ℕ
@@ -90,4 +90,4 @@ weighty_line_notes show lines = part_notes show lines ++ statement_notes show li
 
 -- all notes on lines but those on numbered ones
 abbrev pub line_notes : Tables → List (List ℕ) → List ℕ
-line_notes show lines = weighty_line_notes show lines ++ told_of hour_note lines
+line_notes show lines = weighty_line_notes show lines ++ notes_of_kind hour_note lines

@@ -14,7 +14,7 @@ use Rattle.cmd_explain.specs.declared.heading.Heading.{Heading}
 use Rattle.cmd_explain.specs.declared.numbered_lines.ListLine.{ListLine}
 use Rattle.cmd_explain.specs.declared.numbered_lines.NumberedLines.{NumberedLines}
 use Rattle.cmd_explain.specs.Headings.{heading_below, is_unknown, keyword_in}
-use Rattle.cmd_explain.specs.LineNotes.{Telling, said_by, told_of}
+use Rattle.cmd_explain.specs.LineNotes.{NoteKind, desk_statement, note_line, notes_of_kind}
 use Rattle.cmd_explain.specs.Skipped.{words_in}
 
 -- ---- one line
@@ -41,23 +41,24 @@ begins_with_number (word ∷ words) = is_some (number_of word)
 abbrev pub is_numbered : Heading → Keyword → Words → Bool
 is_numbered h k l = is_unknown h k && begins_with_number l
 
-abbrev pub is_blank : Words → Bool
-is_blank [] = true
-is_blank (word ∷ words) = false
+abbrev pub has_no_words : Words → Bool
+has_no_words [] = true
+has_no_words (word ∷ words) = false
 
 -- ---- the lines above
 
 -- behind a line with words, which a numbered line only follows
-abbrev pub list_after : Heading → ℕ → Keyword → Statement → Words → Option ListLine → Option ListLine
+abbrev pub list_after : Heading → ℕ → Keyword → Statement → Words → Option ListLine
+    → Option ListLine
 list_after h number k s l list = if is_numbered h k l then list else list_of number k s
 
 -- what numbered lines below these go on with: the nearest line that is neither blank nor numbered
 abbrev pub list_above : List (List ℕ) → Option ListLine
 list_above [] = None
 list_above (line ∷ above) =
-    if is_blank (words_of line) then list_above above
+    if has_no_words (words_of line) then list_above above
     else list_after (heading_below (words_in above)) (length above + 1)
-    (keyword_in (words_of line)) (said_by above line) (words_of line) (list_above above)
+    (keyword_in (words_of line)) (desk_statement above line) (words_of line) (list_above above)
 
 abbrev pub numbers_after : Heading → ℕ → Keyword → Words → List ℕ → List ℕ
 numbers_after h number k l numbers = if is_numbered h k l then numbers ++ number ∷ [] else []
@@ -66,7 +67,7 @@ numbers_after h number k l numbers = if is_numbered h k l then numbers ++ number
 abbrev pub numbers_above : List (List ℕ) → List ℕ
 numbers_above [] = []
 numbers_above (line ∷ above) =
-    if is_blank (words_of line) then numbers_above above
+    if has_no_words (words_of line) then numbers_above above
     else numbers_after (heading_below (words_in above)) (length above + 1)
     (keyword_in (words_of line)) (words_of line) (numbers_above above)
 
@@ -94,31 +95,32 @@ run_text list numbers =
     subject_text numbers ++ advice_text (length numbers == 1) ++ list_text list
 
 -- the note on numbered lines that stand below a PATCH or CHAN line
-abbrev pub run_told : Option ListLine → List ℕ → List ℕ
-run_told (Some list) numbers =
-    if length numbers == 0 then [] else codes "note: " ++ run_text list numbers ++ codes "\n"
-run_told None numbers = []
+abbrev pub note_on_run : Option ListLine → List ℕ → List ℕ
+note_on_run (Some list) numbers =
+    if length numbers == 0 then [] else note_line (run_text list numbers)
+note_on_run None numbers = []
 
 -- a line with words tells of those above it, unless it is one more
 abbrev pub run_by : Heading → Keyword → Words → Option ListLine → List ℕ → List ℕ
-run_by h k l list numbers = if is_numbered h k l then [] else run_told list numbers
+run_by h k l list numbers = if is_numbered h k l then [] else note_on_run list numbers
 
-abbrev pub run_note : Telling
+abbrev pub run_note : NoteKind
 run_note above line =
-    if is_blank (words_of line) then []
+    if has_no_words (words_of line) then []
     else run_by (heading_below (words_in above)) (keyword_in (words_of line)) (words_of line)
     (list_above above) (numbers_above above)
 
 -- all of them; those that end a text are told of last
 abbrev pub numbered_notes : List (List ℕ) → List ℕ
-numbered_notes lines = told_of run_note lines ++ run_told (list_above lines) (numbers_above lines)
+numbered_notes lines =
+    notes_of_kind run_note lines ++ note_on_run (list_above lines) (numbers_above lines)
 
 -- ---- what is kept of lines
 
 pub record AreNumberedOf (lines : List (List ℕ)) (those : NumberedLines) : Type 0 where
   pub list : those.list ≡ list_above lines
   pub numbers : those.numbers.items ≡ numbers_above lines
-  pub notes : those.notes.items ≡ told_of run_note lines
+  pub notes : those.notes.items ≡ notes_of_kind run_note lines
 
 -- what a line of this number adds, with this keyword and these words, which this heads
 pub record IsNumberedTaken (above : Heading) (number : ℕ) (k : Keyword) (says : Statement)

@@ -1,6 +1,7 @@
 -- The notes on dimmers that are patched to one channel and then to another. Lists of lines have the
 -- last line first.
-use Rattle.std.specs.Prelude.{◌≡◌, ℕ, ◌+◌, ◌==◌, ◌&&◌, Bool, not, if◌then◌else◌, List, [], ◌∷◌, ◌++◌}
+use Rattle.std.specs.Prelude.{◌≡◌, ℕ, ◌+◌, ◌==◌, ◌&&◌, Bool, not, if◌then◌else◌, List, [], ◌∷◌}
+use Rattle.std.specs.Prelude.{◌++◌}
 use Rattle.std.specs.Prelude.{Option, Some, None, codes, decimal, length}
 use Rattle.std.specs.BTreeMap.{get}
 use Rattle.std.specs.Ordering.{nat_cmp}
@@ -11,7 +12,7 @@ use Rattle.show_line.specs.declared.triples.Triple.{Triple}
 use Rattle.show_reader.specs.Meaning.{empties}
 use Rattle.cmd_explain.specs.declared.patch_notes.DimmerPatch.{DimmerPatch}
 use Rattle.cmd_explain.specs.declared.patch_notes.PatchNotes.{PatchNotes}
-use Rattle.cmd_explain.specs.LineNotes.{Telling, note_on, said_by, told_of}
+use Rattle.cmd_explain.specs.LineNotes.{NoteKind, note_on, desk_statement, notes_of_kind}
 
 -- where each dimmer is patched, and by which line
 abbrev pub PatchSheet : Type 0
@@ -40,7 +41,8 @@ sheet_after number _ sheet = sheet
 -- behind lines
 abbrev pub sheet_below : List (List ℕ) → PatchSheet
 sheet_below [] = λ dimmer. None
-sheet_below (line ∷ above) = sheet_after (length above + 1) (said_by above line) (sheet_below above)
+sheet_below (line ∷ above) =
+    sheet_after (length above + 1) (desk_statement above line) (sheet_below above)
 
 -- ---- the notes
 
@@ -57,24 +59,25 @@ old_patch_text old =
 abbrev pub is_other : Triple → DimmerPatch → Bool
 is_other t old = not (t.channel == 0) && not (t.channel == old.channel)
 
-abbrev pub triple_told : ℕ → Triple → Option DimmerPatch → List ℕ
-triple_told number t (Some old) =
+abbrev pub triple_note : ℕ → Triple → Option DimmerPatch → List ℕ
+triple_note number t (Some old) =
     if is_other t old then note_on number (new_patch_text t ++ old_patch_text old) else []
-triple_told number t None = []
+triple_note number t None = []
 
 -- of triples, each by what is patched behind those before it
-abbrev pub triples_told : ℕ → List Triple → PatchSheet → List ℕ
-triples_told number [] sheet = []
-triples_told number (t ∷ triples) sheet =
-    triple_told number t (sheet t.dimmer)
-    ++ triples_told number triples (sheet_after_triple number t sheet)
+abbrev pub triple_notes : ℕ → List Triple → PatchSheet → List ℕ
+triple_notes number [] sheet = []
+triple_notes number (t ∷ triples) sheet =
+    triple_note number t (sheet t.dimmer)
+    ++ triple_notes number triples (sheet_after_triple number t sheet)
 
-abbrev pub patch_told : ℕ → Statement → PatchSheet → List ℕ
-patch_told number (Patches triples) sheet = triples_told number triples sheet
-patch_told number _ sheet = []
+abbrev pub patch_note_on : ℕ → Statement → PatchSheet → List ℕ
+patch_note_on number (Patches triples) sheet = triple_notes number triples sheet
+patch_note_on number _ sheet = []
 
-abbrev pub patch_note : Telling
-patch_note above line = patch_told (length above + 1) (said_by above line) (sheet_below above)
+abbrev pub patch_note : NoteKind
+patch_note above line =
+    patch_note_on (length above + 1) (desk_statement above line) (sheet_below above)
 
 -- ---- what is kept of lines
 
@@ -84,9 +87,9 @@ sheet_of those = get nat_cmp those.sheet
 -- the sheet and the notes of lines
 pub record ArePatchNotesOf (lines : List (List ℕ)) (those : PatchNotes) : Type 0 where
   pub sheet : sheet_of those ≡ sheet_below lines
-  pub notes : those.notes.items ≡ told_of patch_note lines
+  pub notes : those.notes.items ≡ notes_of_kind patch_note lines
 
 -- what a line of this number adds, which says this
 pub record IsPatchTaken (number : ℕ) (says : Statement) (old new : PatchNotes) : Type 0 where
   pub sheet : sheet_of new ≡ sheet_after number says (sheet_of old)
-  pub notes : new.notes.items ≡ old.notes.items ++ patch_told number says (sheet_of old)
+  pub notes : new.notes.items ≡ old.notes.items ++ patch_note_on number says (sheet_of old)

@@ -2,17 +2,18 @@ ghost use Rattle.std.specs.Prelude.{◌≡◌, ◌∷◌, None, OnOk, IfOk, map,
 ghost use Rattle.ascii_text.specs.Text.{words_of};
 ghost use Rattle.show_line.specs.declared.statement.Record.TheVariants.{Cue};
 ghost use Rattle.show_line.specs.declared.statement.Statement.TheVariants.{Levels};
-ghost use Rattle.cmd_explain.specs.CueParts.{begins, fall, headed_cue, is_part, last_changed};
+ghost use Rattle.cmd_explain.specs.CueParts.{part_of_line, fall, headed_cue, change_last};
 ghost use Rattle.cmd_explain.specs.CueParts.{new_part, no_times, opened_cue, part_by, part_name};
-ghost use Rattle.cmd_explain.specs.CueParts.{part_of, parts_begun, parts_listed, parts_timed, rise};
-ghost use Rattle.cmd_explain.specs.CueParts.{same_rate, same_times, times_or, with_down};
-ghost use Rattle.cmd_explain.specs.CueParts.{with_pairs, with_up};
+ghost use Rattle.cmd_explain.specs.CueParts.{part_of, with_part, parts_with_levels};
+ghost use Rattle.cmd_explain.specs.CueParts.{parts_with_times, rise};
+ghost use Rattle.cmd_explain.specs.CueParts.{same_rate, same_times, times_or, part_with_down};
+ghost use Rattle.cmd_explain.specs.CueParts.{part_with_pairs, part_with_up};
 ghost use Rattle.cmd_explain.specs.Headings.{operands};
 
 use crate::heading::Heading;
+use crate::line_words::{begins_with_word, operands};
 use crate::openings::is_emptied;
-use crate::skipped::operands;
-use ascii_text::{Line, Words, same_word};
+use ascii_text::Line;
 use show::Rate;
 use show_line::{Pairs, Record, Statement, Table};
 use std::alloc::{AllocError, Global};
@@ -94,7 +95,7 @@ pub fn begin_part(
     says: &Statement<'_>,
 ) -> Result<(), AllocError>
     ensures { OnOk result (reverse (map part_of parts.new.items)
-        ≡ parts_begun (begins above line.now.number says.now (words_of line.now.bytes.now))
+        ≡ with_part (part_of_line above line.now.number says.now (words_of line.now.bytes.now))
         (reverse (map part_of parts.old.items))) }
 {
     match opened_cue(says) {
@@ -111,11 +112,11 @@ fn begin_named(
     line: &Line<'_>,
 ) -> Result<(), AllocError>
     ensures { OnOk result (reverse (map part_of parts.new.items)
-        ≡ parts_begun (part_by None headed line.now.number (words_of line.now.bytes.now))
+        ≡ with_part (part_by None headed line.now.number (words_of line.now.bytes.now))
         (reverse (map part_of parts.old.items))) }
 {
     match headed {
-        Some(cue) if is_part(line.bytes) => {
+        Some(cue) if begins_with_word(line.bytes, b"part") => {
             let name = name_in(alloc, line.bytes)?;
             add_part(alloc, parts, cue, line.number, Some(name))
         }
@@ -138,15 +139,6 @@ fn headed_cue(above: Heading) -> Option<u32>
     match above {
         Heading::Opened(Record::Cue(cue)) => Some(cue),
         _ => None,
-    }
-}
-
-fn is_part(line: &[u8]) -> bool
-    ensures { result ≡ is_part (words_of line.now) }
-{
-    match Words::new(line).next() {
-        Some(word) => same_word(word, b"part"),
-        None => false,
     }
 }
 
@@ -185,7 +177,7 @@ fn add_part(
 /// Adds the levels of a record to the last part, if it is a cue.
 pub fn add_pairs(parts: &mut Vec<Part>, which: Record, pairs: Pairs<'_>) -> Result<(), AllocError>
     ensures { OnOk result (reverse (map part_of parts.new.items)
-        ≡ parts_listed (Levels which pairs.entry) (reverse (map part_of parts.old.items))) }
+        ≡ parts_with_levels (Levels which pairs.entry) (reverse (map part_of parts.old.items))) }
 {
     match which {
         Record::Cue(_) => add_cue_pairs(parts, pairs),
@@ -195,7 +187,7 @@ pub fn add_pairs(parts: &mut Vec<Part>, which: Record, pairs: Pairs<'_>) -> Resu
 
 fn add_cue_pairs(parts: &mut Vec<Part>, pairs: Pairs<'_>) -> Result<(), AllocError>
     ensures { OnOk result (reverse (map part_of parts.new.items)
-        ≡ last_changed (with_pairs pairs.entry) (reverse (map part_of parts.old.items))) }
+        ≡ change_last (part_with_pairs pairs.entry) (reverse (map part_of parts.old.items))) }
 {
     let Some(mut part) = parts.pop() else {
         return Ok(());
@@ -208,7 +200,7 @@ fn add_cue_pairs(parts: &mut Vec<Part>, pairs: Pairs<'_>) -> Result<(), AllocErr
 /// Takes what a line says of times, or that it empties the cues.
 pub fn take_times(parts: &mut Vec<Part>, says: &Statement<'_>) -> Result<(), AllocError>
     ensures { OnOk result (reverse (map part_of parts.new.items)
-        ≡ parts_timed says.now (reverse (map part_of parts.old.items))) }
+        ≡ parts_with_times says.now (reverse (map part_of parts.old.items))) }
 {
     match says {
         Statement::Rises(_, rate) => set_up(parts, *rate),
@@ -225,7 +217,7 @@ pub fn take_times(parts: &mut Vec<Part>, says: &Statement<'_>) -> Result<(), All
 
 fn set_up(parts: &mut Vec<Part>, rate: Rate) -> Result<(), AllocError>
     ensures { OnOk result (reverse (map part_of parts.new.items)
-        ≡ last_changed (with_up rate) (reverse (map part_of parts.old.items))) }
+        ≡ change_last (part_with_up rate) (reverse (map part_of parts.old.items))) }
 {
     let Some(mut part) = parts.pop() else {
         return Ok(());
@@ -237,7 +229,7 @@ fn set_up(parts: &mut Vec<Part>, rate: Rate) -> Result<(), AllocError>
 
 fn set_down(parts: &mut Vec<Part>, rate: Rate) -> Result<(), AllocError>
     ensures { OnOk result (reverse (map part_of parts.new.items)
-        ≡ last_changed (with_down rate) (reverse (map part_of parts.old.items))) }
+        ≡ change_last (part_with_down rate) (reverse (map part_of parts.old.items))) }
 {
     let Some(mut part) = parts.pop() else {
         return Ok(());

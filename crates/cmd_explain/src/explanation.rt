@@ -1,11 +1,12 @@
 ghost use Rattle.std.specs.Prelude.{◌≡◌, ◌<◌, ◌^◌, ◌++◌, ℕ, List, length, map, flat_map};
 ghost use Rattle.std.specs.Prelude.{IfOk, OnOk};
 ghost use Rattle.cmd_show.specs.Faults.{CheckFails, ReadsFirst};
-ghost use Rattle.cmd_explain.specs.Explained.{AreFaultLines, Explains, IsTextOf, ListsFaults};
-ghost use Rattle.cmd_explain.specs.Explained.{note_line, text_line};
+ghost use Rattle.cmd_explain.specs.Explanation.{AreFaultLines, Explains, IsTextOf, ListsFaults};
+ghost use Rattle.cmd_explain.specs.Explanation.{text_line};
+ghost use Rattle.cmd_explain.specs.LineNotes.{note_line};
 ghost use Rattle.cmd_explain.specs.NotesOf.{AreNotesOf, line_notes};
 ghost use Rattle.cmd_explain.specs.NumberedLines.{AreNumberedOf, numbered_notes};
-ghost use Rattle.cmd_explain.specs.Skipped.{shown};
+ghost use Rattle.cmd_explain.specs.Skipped.{display_text};
 
 use crate::encoding::push_encoding;
 use crate::faulty::faulty_lines;
@@ -14,7 +15,7 @@ use crate::note_lines::LineNotes;
 use crate::notes::Notes;
 use crate::numbered_lines::{NumberedLines, push_run};
 use crate::show_notes::push_show_notes;
-use crate::skipped::{push_shown, skipped_lines};
+use crate::skipped::{push_display_text, skipped_lines};
 use crate::weight::push_weighty;
 use cmd_faults::RunFault;
 use devices::Output;
@@ -80,7 +81,7 @@ fn faults_text(alloc: Global, show: &[u8], fault: ShowFault) -> Result<Vec<u8>, 
 
 fn push_lines(text: &mut Vec<u8>, lines: &[Vec<u8>]) -> Result<(), AllocError>
     ensures { OnOk result (text.new.items
-        ≡ text.old.items ++ flat_map text_line (map (λ line. shown line.items) lines.now)) }
+        ≡ text.old.items ++ flat_map text_line (map (λ line. display_text line.items) lines.now)) }
 {
     for line in lines {
         push_line(text, line.as_slice())?;
@@ -89,9 +90,9 @@ fn push_lines(text: &mut Vec<u8>, lines: &[Vec<u8>]) -> Result<(), AllocError>
 }
 
 fn push_line(text: &mut Vec<u8>, line: &[u8]) -> Result<(), AllocError>
-    ensures { OnOk result (text.new.items ≡ text.old.items ++ text_line (shown line.now)) }
+    ensures { OnOk result (text.new.items ≡ text.old.items ++ text_line (display_text line.now)) }
 {
-    push_shown(text, line)?;
+    push_display_text(text, line)?;
     text.push(b'\n')?;
     Ok(())
 }
@@ -147,7 +148,7 @@ fn push_line_notes(
 /// Appends notes.
 pub fn push_notes(text: &mut Vec<u8>, notes: &[Vec<u8>]) -> Result<(), AllocError>
     ensures { OnOk result (text.new.items
-        ≡ text.old.items ++ flat_map note_line (map (λ note. shown note.items)
+        ≡ text.old.items ++ flat_map note_line (map (λ note. display_text note.items)
         notes.now)) }
 {
     for note in notes {
@@ -157,10 +158,10 @@ pub fn push_notes(text: &mut Vec<u8>, notes: &[Vec<u8>]) -> Result<(), AllocErro
 }
 
 fn push_note(text: &mut Vec<u8>, note: &[u8]) -> Result<(), AllocError>
-    ensures { OnOk result (text.new.items ≡ text.old.items ++ note_line (shown note.now)) }
+    ensures { OnOk result (text.new.items ≡ text.old.items ++ note_line (display_text note.now)) }
 {
     text.extend_from_slice(b"note: ")?;
-    push_shown(text, note)?;
+    push_display_text(text, note)?;
     text.push(b'\n')?;
     Ok(())
 }

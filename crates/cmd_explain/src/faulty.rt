@@ -2,8 +2,9 @@ ghost use Rattle.std.specs.Prelude.{◌<◌, ◌^◌, length};
 
 use crate::blame::faulty_word;
 use crate::decimal::push_number;
+use crate::line_words::operands;
 use crate::notes::Notes;
-use crate::skipped::{first_bytes, operands};
+use crate::skipped::first_bytes;
 use ascii_text::{Line, Lines, Words, number};
 use show_line::{Keyword, LineFault, Reading, Record, Statement, read_line};
 use show_reader::ShowFault;

@@ -1,7 +1,7 @@
 ghost use Rattle.std.specs.Prelude.{◌≡◌, if◌then◌else◌};
 ghost use Rattle.show_line.specs.Keywords.{may_own};
 ghost use Rattle.show_reader.specs.Meaning.{is_skipped};
-ghost use Rattle.cmd_explain.specs.Headings.{heading_of, heading_skipped, is_unknown, owner_of};
+ghost use Rattle.cmd_explain.specs.Headings.{heading_of, skipped_heading, is_unknown, owner_of};
 
 use show_line::{Keyword, Record, Statement};
 
@@ -47,7 +47,7 @@ impl Heading {
     }
 
     fn of_skipped(keyword: Keyword) -> Heading
-        ensures { result ≡ heading_skipped keyword }
+        ensures { result ≡ skipped_heading keyword }
     {
         match keyword {
             Keyword::Maker => Heading::Maker,

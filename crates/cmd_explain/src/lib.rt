@@ -23,6 +23,7 @@ mod explanation;
 mod faulty;
 mod heading;
 mod line_notes;
+mod line_words;
 mod misspelt;
 mod note_lines;
 mod notes;
@@ -38,6 +39,9 @@ mod weight;
 
 pub use decimal::{push_decimal, push_number};
 pub use explanation::explain;
+pub use line_words::begins_with_word;
+pub use openings::is_same_record;
 pub use seeming::seems;
-pub use skipped::push_shown;
+pub use show_notes::cue_numbers;
+pub use skipped::push_display_text;
 pub use weight::{Weight, weigh};

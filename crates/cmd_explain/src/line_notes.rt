@@ -1,23 +1,29 @@
 ghost use Rattle.std.specs.Prelude.{◌≡◌, ◌+◌, ◌++◌, codes, decimal, nat_lt, take, OnOk};
-ghost use Rattle.std.specs.Prelude.{Some};
 ghost use Rattle.ascii_text.specs.Text.{words_of};
 ghost use Rattle.cmd_explain.specs.Headings.{operands};
-ghost use Rattle.cmd_explain.specs.LineNotes.{is_link, linked, is_followed, way_text};
+ghost use Rattle.cmd_explain.specs.LineNotes.{link_target, is_followed, way_text};
 ghost use Rattle.cmd_explain.specs.LineNotes.{link_by, cue_link_text, unfollowed_text};
-ghost use Rattle.cmd_explain.specs.LineNotes.{hour_text};
-ghost use Rattle.cmd_explain.specs.LineNotes.{link_text, link_told, has_decimal_comma};
-ghost use Rattle.cmd_explain.specs.LineNotes.{is_decimal, note_on};
-ghost use Rattle.cmd_explain.specs.LineNotes.{comma_text, comma_told, times_text, rate_times};
-ghost use Rattle.cmd_explain.specs.LineNotes.{follow_times, rate_text, hour_told, hour_by};
-ghost use Rattle.cmd_explain.specs.Skipped.{shown};
+ghost use Rattle.cmd_explain.specs.LineNotes.{link_text, link_note_on, has_decimal_comma};
+ghost use Rattle.cmd_explain.specs.LineNotes.{is_decimal, note_on, comma_text, comma_note_on};
+ghost use Rattle.cmd_explain.specs.LineNotes.{times_on, times_text, delay_text, rate_text};
+ghost use Rattle.cmd_explain.specs.LineNotes.{hour_text, hour_note_on, hour_by};
+ghost use Rattle.cmd_explain.specs.Skipped.{display_text};
 
 use crate::decimal::{push_decimal, push_number};
 use crate::heading::Heading;
-use crate::skipped::{first_bytes, operands, push_shown};
-use ascii_text::{Words, cue_number, same_word};
+use crate::line_words::{begins_with_word, operands};
+use crate::skipped::{first_bytes, push_display_text};
+use ascii_text::cue_number;
 use show::{Rate, Show};
 use show_line::{Record, Statement};
 use std::alloc::AllocError;
+
+/// The times that a line gives to a cue, in milliseconds. FOLLOWON has no delay.
+#[derive(Clone, Copy)]
+pub struct LineTimes {
+    pub time: u32,
+    pub delay: Option<u32>,
+}
 
 // An hour in milliseconds.
 const HOUR: u64 = 3_600_000;
@@ -31,12 +37,12 @@ pub fn push_link(
     line: &[u8],
 ) -> Result<(), AllocError>
     ensures { OnOk result (out.new.items
-        ≡ out.old.items ++ link_told show.now number above (words_of line.now)) }
+        ≡ out.old.items ++ link_note_on show.now number above (words_of line.now)) }
 {
     let Heading::Opened(Record::Cue(cue)) = above else {
         return Ok(());
     };
-    if !is_link(line) || show.cue(cue).is_none() {
+    if !begins_with_word(line, b"link") || show.cue(cue).is_none() {
         return Ok(());
     }
     push_link_by(out, number, cue, link_target(line), show.next(cue))
@@ -75,18 +81,9 @@ fn push_cue_link(
     Ok(())
 }
 
-fn is_link(line: &[u8]) -> bool
-    ensures { result ≡ is_link (words_of line.now) }
-{
-    match Words::new(line).next() {
-        Some(word) => same_word(word, b"link"),
-        None => false,
-    }
-}
-
 // The cue that the second word of a line names.
 fn link_target(line: &[u8]) -> Option<u32>
-    ensures { result ≡ linked (operands (words_of line.now)) }
+    ensures { result ≡ link_target (operands (words_of line.now)) }
 {
     match operands(line).next() {
         Some(word) => cue_number(word),
@@ -145,94 +142,80 @@ pub fn push_comma(
     line: &[u8],
 ) -> Result<(), AllocError>
     ensures { OnOk result (out.new.items
-        ≡ out.old.items ++ comma_told number (times_text statement.now) line.now) }
+        ≡ out.old.items ++ comma_note_on number (times_on statement.now) line.now) }
 {
-    match statement {
-        Statement::Rises(_, rate) => push_rate_comma(out, number, *rate, line),
-        Statement::Falls(_, rate) => push_rate_comma(out, number, *rate, line),
-        Statement::Follows(_, time) => push_follow_comma(out, number, *time, line),
+    match times_on(statement) {
+        Some(times) if has_decimal_comma(line) => push_comma_note(out, number, times, line),
         _ => Ok(()),
     }
 }
 
-fn push_rate_comma(
+fn times_on(statement: &Statement<'_>) -> Option<LineTimes>
+    ensures { result ≡ times_on statement.now }
+{
+    match statement {
+        Statement::Rises(_, rate) | Statement::Falls(_, rate) => Some(LineTimes {
+            time: rate.time,
+            delay: Some(rate.delay),
+        }),
+        Statement::Follows(_, time) => Some(LineTimes {
+            time: *time,
+            delay: None,
+        }),
+        _ => None,
+    }
+}
+
+fn push_comma_note(
     out: &mut Vec<u8>,
     number: u32,
-    rate: Rate,
+    times: LineTimes,
     line: &[u8],
 ) -> Result<(), AllocError>
     ensures { OnOk result (out.new.items
-        ≡ out.old.items ++ comma_told number (Some (rate_times rate)) line.now) }
-{
-    if has_decimal_comma(line) {
-        push_rate_note(out, number, rate, line)?;
-    }
-    Ok(())
-}
-
-fn push_rate_note(out: &mut Vec<u8>, number: u32, rate: Rate, line: &[u8]) -> Result<(), AllocError>
-    ensures { OnOk result (out.new.items
-        ≡ out.old.items ++ note_on number (comma_text line.now (rate_times rate))) }
+        ≡ out.old.items ++ note_on number (comma_text line.now times)) }
 {
     push_front(out, number)?;
-    push_rate_comma_text(out, rate, line)?;
+    push_comma_text(out, times, line)?;
     out.push(b'\n')?;
     Ok(())
 }
 
-fn push_rate_comma_text(out: &mut Vec<u8>, rate: Rate, line: &[u8]) -> Result<(), AllocError>
-    ensures { OnOk result (out.new.items ≡ out.old.items ++ comma_text line.now (rate_times rate)) }
+fn push_comma_text(out: &mut Vec<u8>, times: LineTimes, line: &[u8]) -> Result<(), AllocError>
+    ensures { OnOk result (out.new.items ≡ out.old.items ++ comma_text line.now times) }
 {
     push_comma_words(out, line)?;
-    push_rate_times(out, rate)?;
+    push_times(out, times)?;
     out.extend_from_slice(b"; write a point for a decimal")?;
     Ok(())
 }
 
-fn push_rate_times(out: &mut Vec<u8>, rate: Rate) -> Result<(), AllocError>
-    ensures { OnOk result (out.new.items ≡ out.old.items ++ rate_times rate) }
+fn push_times(out: &mut Vec<u8>, times: LineTimes) -> Result<(), AllocError>
+    ensures { OnOk result (out.new.items ≡ out.old.items ++ times_text times) }
 {
     out.extend_from_slice(b"time ")?;
-    push_decimal(out, rate.time)?;
-    out.extend_from_slice(b", delay ")?;
-    push_decimal(out, rate.delay)?;
+    push_decimal(out, times.time)?;
+    push_delay(out, times.delay)?;
     Ok(())
 }
 
-fn push_follow_comma(
-    out: &mut Vec<u8>,
-    number: u32,
-    time: u32,
-    line: &[u8],
-) -> Result<(), AllocError>
-    ensures { OnOk result (out.new.items
-        ≡ out.old.items ++ comma_told number (Some (follow_times time)) line.now) }
+fn push_delay(out: &mut Vec<u8>, delay: Option<u32>) -> Result<(), AllocError>
+    ensures { OnOk result (out.new.items ≡ out.old.items ++ delay_text delay) }
 {
-    if !has_decimal_comma(line) {
-        return Ok(());
+    match delay {
+        Some(delay) => {
+            out.extend_from_slice(b", delay ")?;
+            push_decimal(out, delay)
+        }
+        None => Ok(()),
     }
-    push_front(out, number)?;
-    push_follow_comma_text(out, time, line)?;
-    out.push(b'\n')?;
-    Ok(())
-}
-
-fn push_follow_comma_text(out: &mut Vec<u8>, time: u32, line: &[u8]) -> Result<(), AllocError>
-    ensures { OnOk result (out.new.items
-        ≡ out.old.items ++ comma_text line.now (follow_times time)) }
-{
-    push_comma_words(out, line)?;
-    out.extend_from_slice(b"time ")?;
-    push_decimal(out, time)?;
-    out.extend_from_slice(b"; write a point for a decimal")?;
-    Ok(())
 }
 
 fn push_comma_words(out: &mut Vec<u8>, line: &[u8]) -> Result<(), AllocError>
-    ensures { OnOk result (out.new.items ≡ out.old.items ++ shown (take 200 line.now)
+    ensures { OnOk result (out.new.items ≡ out.old.items ++ display_text (take 200 line.now)
         ++ codes ": the comma parts two words: ") }
 {
-    push_shown(out, first_bytes(line))?;
+    push_display_text(out, first_bytes(line))?;
     out.extend_from_slice(b": the comma parts two words: ")?;
     Ok(())
 }
@@ -281,7 +264,7 @@ fn push_long(
     word: &[u8],
     rate: Rate,
 ) -> Result<(), AllocError>
-    ensures { OnOk result (out.new.items ≡ out.old.items ++ hour_told number cue word.now rate) }
+    ensures { OnOk result (out.new.items ≡ out.old.items ++ hour_note_on number cue word.now rate) }
 {
     if !is_long(rate) {
         return Ok(());

@@ -1,9 +1,10 @@
-ghost use Rattle.std.specs.Prelude.{◌≡◌, ◌++◌, ◌&&◌, ◌==◌, [], OnOk, codes, length};
+ghost use Rattle.std.specs.Prelude.{◌≡◌, ◌++◌, ◌&&◌, ◌==◌, [], OnOk, length};
 ghost use Rattle.ascii_text.specs.Text.{words_of};
+ghost use Rattle.cmd_explain.specs.LineNotes.{note_line};
 ghost use Rattle.cmd_explain.specs.NumberedLines.{AreNumberedOf, IsNumberedTaken, advice_text};
 ghost use Rattle.cmd_explain.specs.NumberedLines.{begins_with_number, is_numbered, list_of};
 ghost use Rattle.cmd_explain.specs.NumberedLines.{list_text, numbers_after, run_by, run_text};
-ghost use Rattle.cmd_explain.specs.NumberedLines.{run_told, subject_text, subject_word};
+ghost use Rattle.cmd_explain.specs.NumberedLines.{note_on_run, subject_text, subject_word};
 
 use crate::decimal::push_number;
 use crate::heading::{Heading, is_skipped, is_unknown};
@@ -97,7 +98,7 @@ pub fn push_run(
     list: Option<ListLine>,
     numbers: &[u32],
 ) -> Result<(), AllocError>
-    ensures { OnOk result (out.new.items ≡ out.old.items ++ run_told list numbers.now) }
+    ensures { OnOk result (out.new.items ≡ out.old.items ++ note_on_run list numbers.now) }
 {
     match list {
         Some(list) if !numbers.is_empty() => push_run_note(out, list, numbers),
@@ -106,8 +107,8 @@ pub fn push_run(
 }
 
 fn push_run_note(out: &mut Vec<u8>, list: ListLine, numbers: &[u32]) -> Result<(), AllocError>
-    ensures { OnOk result (out.new.items ≡ out.old.items
-        ++ codes "note: " ++ run_text list numbers.now ++ codes "\n") }
+    ensures { OnOk result (out.new.items
+        ≡ out.old.items ++ note_line (run_text list numbers.now)) }
 {
     out.extend_from_slice(b"note: ")?;
     push_run_text(out, list, numbers)?;

@@ -1,7 +1,7 @@
 ghost use Rattle.std.specs.Prelude.{◌≡◌, ◌++◌, [], true, Some, OnOk};
 ghost use Rattle.show_reader.specs.Keys.{table_of};
 ghost use Rattle.show_reader.specs.Meaning.{empties, same_record, same_table};
-ghost use Rattle.cmd_explain.specs.LineNotes.{again_text, again_told, opened_on};
+ghost use Rattle.cmd_explain.specs.LineNotes.{again_text, again_note_on, opening_line};
 ghost use Rattle.cmd_explain.specs.LineNotes.{openings_after, record_text};
 ghost use Rattle.cmd_explain.specs.NotesOf.{IsTaken};
 
@@ -60,7 +60,7 @@ impl Openings {
         ensures list { OnOk result (self.new.list.items
             ≡ openings_after self.old.table number (Statement.Opens which) self.old.list.items) }
         ensures notes { OnOk result (self.new.notes.items ≡ self.old.notes.items
-            ++ again_told number which (opened_on which self.old.list.items)) }
+            ++ again_note_on number which (opening_line which self.old.list.items)) }
     {
         match self.line_of(which) {
             Some(first) => push_again(&mut self.notes, number, which, first),
@@ -75,10 +75,10 @@ impl Openings {
     }
 
     fn line_of(&self, which: Record) -> Option<u32>
-        ensures { result ≡ opened_on which self.now.list.items }
+        ensures { result ≡ opening_line which self.now.list.items }
     {
         for opening in &self.list {
-            if is_same(which, opening.which) {
+            if is_same_record(which, opening.which) {
                 return Some(opening.line);
             }
         }
@@ -86,7 +86,8 @@ impl Openings {
     }
 }
 
-fn is_same(one: Record, other: Record) -> bool
+/// Whether two records are the same one.
+pub fn is_same_record(one: Record, other: Record) -> bool
     ensures { result ≡ same_record one other }
 {
     match (one, other) {
@@ -126,7 +127,7 @@ pub fn is_emptied(what: Cleared, table: Table) -> bool
 
 fn push_again(out: &mut Vec<u8>, number: u32, which: Record, first: u32) -> Result<(), AllocError>
     ensures { OnOk result (out.new.items
-        ≡ out.old.items ++ again_told number which (Some first)) }
+        ≡ out.old.items ++ again_note_on number which (Some first)) }
 {
     push_front(out, number)?;
     push_again_text(out, which, first)?;

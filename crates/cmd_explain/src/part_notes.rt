@@ -1,10 +1,11 @@
 ghost use Rattle.std.specs.Prelude.{◌≡◌, ◌≤◌, ◌++◌, ◌==◌, ℕ, OnOk, IfOk, Some, filter, is_some};
 ghost use Rattle.std.specs.Prelude.{map, option_map};
 ghost use Rattle.std.specs.List.{list_any, range_with_len};
-ghost use Rattle.cmd_explain.specs.CueParts.{channel_word, channels_in, channels_text, cues_told};
+ghost use Rattle.cmd_explain.specs.CueParts.{channel_word, channels_in, channels_text};
+ghost use Rattle.cmd_explain.specs.CueParts.{notes_on_cues};
 ghost use Rattle.cmd_explain.specs.CueParts.{difference_text, first_times, last_times, moves_text};
-ghost use Rattle.cmd_explain.specs.CueParts.{name_text, part_of, part_subject, part_text};
-ghost use Rattle.cmd_explain.specs.CueParts.{part_told, parts_told, take_word};
+ghost use Rattle.cmd_explain.specs.CueParts.{part_name_text, part_of, part_subject, part_text};
+ghost use Rattle.cmd_explain.specs.CueParts.{part_note, cue_part_notes, take_word};
 ghost use Rattle.cmd_explain.specs.LineNotes.{note_on, rate_text};
 ghost use Rattle.cmd_explain.specs.ShowNotes.{is_marked};
 
@@ -12,7 +13,7 @@ use crate::channels::{Channels, is_marked, mark, no_channels};
 use crate::cue_parts::{Part, Times};
 use crate::decimal::{push_decimal, push_number};
 use crate::line_notes::{push_front, push_rate};
-use crate::skipped::{first_bytes, push_shown};
+use crate::skipped::{first_bytes, push_display_text};
 use show::{CHANNELS, Rate};
 use std::alloc::{AllocError, Global};
 
@@ -24,7 +25,7 @@ pub fn push_part_notes(
     cues: &[u32],
 ) -> Result<(), AllocError>
     ensures { OnOk result (out.new.items
-        ≡ out.old.items ++ cues_told (map part_of parts.now) cues.now) }
+        ≡ out.old.items ++ notes_on_cues (map part_of parts.now) cues.now) }
 {
     for cue in cues {
         push_cue_parts(alloc, out, parts, *cue)?;
@@ -39,9 +40,9 @@ fn push_cue_parts(
     cue: u32,
 ) -> Result<(), AllocError>
     ensures { OnOk result (out.new.items ≡ out.old.items
-        ++ parts_told (filter (λ p. p.cue == cue) (map part_of parts.now))) }
+        ++ cue_part_notes (filter (λ p. p.cue == cue) (map part_of parts.now))) }
 {
-    if !has_named(parts, cue) {
+    if !has_named_part(parts, cue) {
         return Ok(());
     }
     let first = first_times(parts, cue);
@@ -55,8 +56,8 @@ fn push_cue_parts(
 }
 
 // Whether a PART line begins one of a cue's parts.
-#[tactic(auto, using(crate::proofs::PartLists::kept_more))]
-fn has_named(parts: &[Part], cue: u32) -> bool
+#[tactic(auto, using(crate::proofs::PartLists::filter_more))]
+fn has_named_part(parts: &[Part], cue: u32) -> bool
     ensures { result
         ≡ list_any (λ p. is_some p.name) (filter (λ p. p.cue == cue) (map part_of parts.now)) }
 {
@@ -68,7 +69,7 @@ fn has_named(parts: &[Part], cue: u32) -> bool
     false
 }
 
-#[tactic(auto, using(crate::proofs::PartLists::kept_more))]
+#[tactic(auto, using(crate::proofs::PartLists::filter_more))]
 fn first_times(parts: &[Part], cue: u32) -> Times
     ensures { result ≡ first_times (filter (λ p. p.cue == cue) (map part_of parts.now)) }
 {
@@ -80,7 +81,7 @@ fn first_times(parts: &[Part], cue: u32) -> Times
     Times::none()
 }
 
-#[tactic(auto, using(crate::proofs::PartLists::kept_more))]
+#[tactic(auto, using(crate::proofs::PartLists::filter_more))]
 fn last_times(parts: &[Part], cue: u32) -> Times
     ensures { result ≡ last_times (filter (λ p. p.cue == cue) (map part_of parts.now)) }
 {
@@ -102,7 +103,7 @@ fn push_part(
     times: Times,
 ) -> Result<(), AllocError>
     ensures { OnOk result (out.new.items
-        ≡ out.old.items ++ part_told (part_of part.now) own times) }
+        ≡ out.old.items ++ part_note (part_of part.now) own times) }
 {
     if part.pairs.is_empty() || own.is_same(times) {
         return Ok(());
@@ -156,12 +157,12 @@ fn push_subject(out: &mut Vec<u8>, part: &Part) -> Result<(), AllocError>
 
 fn push_name(out: &mut Vec<u8>, name: &Option<Vec<u8>>) -> Result<(), AllocError>
     ensures { OnOk result (out.new.items ≡ out.old.items
-        ++ name_text (option_map (λ name. name.items) name.now)) }
+        ++ part_name_text (option_map (λ name. name.items) name.now)) }
 {
     match name {
         Some(name) => {
             out.extend_from_slice(b", part ")?;
-            push_shown(out, first_bytes(name.as_slice()))?;
+            push_display_text(out, first_bytes(name.as_slice()))?;
             Ok(())
         }
         None => out.extend_from_slice(b", before its parts"),

@@ -1,5 +1,5 @@
 ghost use Rattle.std.specs.Prelude.{◌≡◌, option_map, take};
-ghost use Rattle.cmd_explain.specs.Encoding.{beginnings, kind_by_nul, kind_in, seeming};
+ghost use Rattle.cmd_explain.specs.Encoding.{beginnings, kind_by_nul, kind_in, likely_kind};
 
 // So many bytes are looked at.
 const LOOKED_AT: usize = 512;
@@ -8,7 +8,7 @@ const UTF_16: &str = "text in UTF-16";
 
 /// What a file of these bytes seems to be, where its first 512 bytes are no text.
 pub fn seems(text: &[u8]) -> Option<&'static str>
-    ensures { option_map (λ kind. kind.now) result ≡ seeming text.now }
+    ensures { option_map (λ kind. kind.now) result ≡ likely_kind text.now }
 {
     let front = first_bytes(text);
     kind_in(front).or(kind_by_nul(front))

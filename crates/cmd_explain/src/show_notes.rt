@@ -68,6 +68,10 @@ fn push_dark(alloc: Global, out: &mut Vec<u8>, show: &Show, cues: &[u32]) -> Res
 }
 
 /// The numbers of a show's cues, in thousandths, ascending.
+///
+/// # Errors
+///
+/// If an allocation failed.
 pub fn cue_numbers(alloc: Global, show: &Show) -> Result<Vec<u32>, AllocError>
     ensures { IfOk result (λ numbers. numbers.items ≡ maps.keys show.now.cues) }
 {

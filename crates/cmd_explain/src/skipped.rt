@@ -1,14 +1,15 @@
 ghost use Rattle.std.specs.Prelude.{◌≡◌, ◌+◌, ◌<◌, ◌^◌, ◌++◌, ℕ, List, ◌∷◌, length, take};
 ghost use Rattle.std.specs.Prelude.{reverse, IfOk, OnOk};
-ghost use Rattle.ascii_text.specs.Text.{lines_of, words_of};
-ghost use Rattle.ascii_text.specs.LinesLeft.{words_left};
-ghost use Rattle.cmd_explain.specs.Headings.{heading_below, operands};
-ghost use Rattle.cmd_explain.specs.Skipped.{explained, line_explained, shown, shown_byte};
+ghost use Rattle.ascii_text.specs.Text.{lines_of};
+ghost use Rattle.cmd_explain.specs.Headings.{heading_below};
+ghost use Rattle.cmd_explain.specs.Skipped.{skipped_lines, skipped_line_below, display_text};
+ghost use Rattle.cmd_explain.specs.Skipped.{display_byte};
 ghost use Rattle.cmd_explain.specs.Skipped.{skipped_line, words_in};
 
 use crate::heading::{Heading, is_skipped};
+use crate::line_words::operands;
 use crate::reason::{Reason, reason_of};
-use ascii_text::{Line, Lines, Words};
+use ascii_text::{Line, Lines};
 use itoa::Buffer;
 use show_line::read_line;
 use std::alloc::{AllocError, Global};
@@ -17,7 +18,7 @@ use std::alloc::{AllocError, Global};
 pub fn skipped_lines(alloc: Global, text: &[u8], lines: u32) -> Result<Vec<u8>, AllocError>
     requires { length text.now < 2 ^ 32 }
     ensures { IfOk result (λ out.
-        out.items ≡ explained (reverse (take lines (lines_of text.now)))) }
+        out.items ≡ skipped_lines (reverse (take lines (lines_of text.now)))) }
 {
     let mut out = Vec::new(alloc);
     let mut above = Heading::Nothing;
@@ -34,7 +35,7 @@ pub fn skipped_lines(alloc: Global, text: &[u8], lines: u32) -> Result<Vec<u8>, 
 fn explain_line(out: &mut Vec<u8>, above: Heading, line: Line<'_>) -> Result<Heading, AllocError>
     ensures text { OnOk result ((lines : List (List ℕ)) → above ≡ heading_below (words_in lines)
         → line.entry.number ≡ length lines + 1
-        → out.new.items ≡ out.old.items ++ line_explained lines line.entry.bytes.now) }
+        → out.new.items ≡ out.old.items ++ skipped_line_below lines line.entry.bytes.now) }
     ensures heading { IfOk result (λ below. (lines : List (List ℕ))
         → above ≡ heading_below (words_in lines)
         → below ≡ heading_below (words_in (line.entry.bytes.now ∷ lines))) }
@@ -44,7 +45,7 @@ fn explain_line(out: &mut Vec<u8>, above: Heading, line: Line<'_>) -> Result<Hea
     };
     if is_skipped(&reading.statement) {
         let reason = reason_of(above, reading.keyword, operands(line.bytes));
-        push_skipped(out, line.number, reason, line.bytes)?;
+        push_skipped_line(out, line.number, reason, line.bytes)?;
     }
     if reading.keyword.may_own() {
         Ok(Heading::of(reading.keyword, &reading.statement))
@@ -53,16 +54,7 @@ fn explain_line(out: &mut Vec<u8>, above: Heading, line: Line<'_>) -> Result<Hea
     }
 }
 
-/// The words of a line behind the first.
-pub fn operands<'a>(line: &'a [u8]) -> Words<'a>
-    ensures { words_left result ≡ operands (words_of line.now) }
-{
-    let mut words = Words::new(line);
-    let _ = words.next();
-    words
-}
-
-fn push_skipped(
+fn push_skipped_line(
     out: &mut Vec<u8>,
     number: u32,
     reason: Reason,
@@ -75,7 +67,7 @@ fn push_skipped(
     out.extend_from_slice(b": ")?;
     reason.push_to(out)?;
     out.extend_from_slice(b": ")?;
-    push_shown(out, first_bytes(line))?;
+    push_display_text(out, first_bytes(line))?;
     out.push(b'\n')?;
     Ok(())
 }
@@ -93,17 +85,17 @@ pub fn first_bytes<'a>(line: &'a [u8]) -> &'a [u8]
 /// # Errors
 ///
 /// If an allocation failed.
-pub fn push_shown(out: &mut Vec<u8>, bytes: &[u8]) -> Result<(), AllocError>
-    ensures { OnOk result (out.new.items ≡ out.old.items ++ shown bytes.now) }
+pub fn push_display_text(out: &mut Vec<u8>, bytes: &[u8]) -> Result<(), AllocError>
+    ensures { OnOk result (out.new.items ≡ out.old.items ++ display_text bytes.now) }
 {
     for byte in bytes {
-        out.push(shown_byte(*byte))?;
+        out.push(display_byte(*byte))?;
     }
     Ok(())
 }
 
-fn shown_byte(byte: u8) -> u8
-    ensures { result ≡ shown_byte byte }
+fn display_byte(byte: u8) -> u8
+    ensures { result ≡ display_byte byte }
 {
     match byte {
         b'\t' | b'\r' => b' ',

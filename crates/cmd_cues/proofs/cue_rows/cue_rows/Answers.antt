@@ -1,57 +1,35 @@
-use Rattle.std.proofs.Common.{◌∙◌, ◌∷◌, ◌++◌, [], ℕ, List, map, refl, ap, sym, arith}
-use Rattle.std.proofs.Common.{append_assoc, length-append}
+use Rattle.std.proofs.Common.{◌≡◌, ◌∙◌, ◌<◌, ◌≤◌, ◌∷◌, ◌++◌, [], ℕ, length, map, take, refl, ap}
+use Rattle.std.proofs.Common.{sym}
+use Rattle.std.proofs.Common.{arith, get_or}
 use Rattle.std.specs.FinMap as maps
-use Rattle.std.proofs.lemmas.List.{map-append}
-use Rattle.show.specs.declared.cue.CueData.{CueData}
+use Rattle.std.proofs.lemmas.List.{length-map, map-append, take_all}
 use Rattle.cmd_cues.specs.Rows.{cue_row}
-use Rattle.cmd_explain.proofs.Ascending.{all_done, first_above_0, next_cue, none_next}
+use Rattle.cmd_explain.proofs.Ascending.{entry_at}
 use Rattle.cmd_cues.proofs.cue_rows.cue_rows.Goals as goal
 
-pub loop-row-init : goal.loop-row-init
-loop-row-init c = (
-  [],
-  maps.entries c.args.show.now.cues,
-  record {
-    all = refl;
-    count = refl;
-    next =
-        c.next-next.ensures
-        ∙ first_above_0 (maps.entries c.args.show.now.cues) c.counts-row-end.ensures.ranges.cues_in;
-    rows = c.new-rows.ensures.items;
-  },
-)
-
-pub loop-row-preserved : goal.loop-row-preserved
-loop-row-preserved c =
-    let before = c.loop-row.invariant in
-    let done = before.0 in
-    let number = c.in-Some.number in
-    let at = next_cue c.args.show.now.cues done before.1 number before.2.all
-    (sym before.2.next ∙ c.in-Some.is) in
-    let one : List (ℕ × CueData) = (number, at.0) ∷ [] in (
-      done ++ one,
-      at.1,
-      record {
-        all = before.2.all ∙ ap (λ l. done ++ l) at.2.left_is ∙ sym (append_assoc done one at.1);
-        count = omega (arith, length-append done one, before.2.count);
-        next = c.next-next-in-loop-row.ensures ∙ at.2.next;
-        rows =
-            c.in_ok-push_cue_row.ensures at.0 at.2.found
-            ∙ ap (λ rows. rows ++ cue_row (number, at.0) ∷ []) before.2.rows
-            ∙ sym (map-append cue_row done one);
-      },
-    )
-
-pub returns-in_default : goal.returns-in_default
-returns-in_default c =
-    let before = c.loop-row.invariant in
-    before.2.rows
-    ∙ ap (map cue_row) (none_next c.args.show.now.cues before.0 before.1 before.2.all
-    (sym before.2.next ∙ c.in_default.is))
+pub loop-number-preserved : goal.loop-number-preserved
+loop-number-preserved c =
+    let cues = c.args.show.now.cues in
+    let es = maps.entries cues in
+    let i = c.loop-number.number-index in
+    let n = c.number-item.result in
+    let numbers = c.in_ok-numbers.ensures in
+    let within : i < length es =
+    omega (arith, c.loop-number-test.true, ap length numbers, length-map es (λ e. e.0)) in
+    let at = entry_at cues es i n refl within
+    (c.number-item.is ∙ ap (λ ns. get_or ns i n) numbers) in
+    c.in_ok-push_cue_row.ensures at.0 at.1.found
+    ∙ ap (λ rows. rows ++ cue_row (n, at.0) ∷ []) c.loop-number.invariant
+    ∙ sym (ap (map cue_row) at.1.more ∙ map-append cue_row (take i es) ((n, at.0) ∷ []))
 
 pub returns : goal.returns
 returns c =
-    let before = c.loop-row.invariant in
-    before.2.rows
-    ∙ ap (map cue_row) (all_done c.args.show.now.cues before.0 before.1 before.2.all
-    (omega (arith, before.2.count, c.counts-row-end.ensures.cues, c.loop-row-test.false)))
+    let es = maps.entries c.args.show.now.cues in
+    let i = c.loop-number.number-index in
+    let past : length es ≤ i = omega (
+      arith,
+      c.loop-number-test.false,
+      ap length c.in_ok-numbers.ensures,
+      length-map es (λ e. e.0),
+    ) in
+    c.loop-number.invariant ∙ ap (map cue_row) (take_all i es past)

@@ -1,5 +1,5 @@
 use Rattle.std.proofs.Common.{◌≡◌, ◌++◌, codes, take}
-use Rattle.cmd_cues.specs.Json.{items_text, cue_text}
+use Rattle.cmd_cues.specs.Json.{items_text, cue_object}
 use Rattle.cmd_cues.specs.LabelLines.{label_by}
 use Rattle.cmd_cues.proofs.json.push_cues.Given as goal
 
@@ -7,4 +7,4 @@ abbrev pub invariant-loop-place : goal.invariant-loop-place
 invariant-loop-place l =
     l.text.items
     ≡ (l.fn.text.items ++ codes "[")
-    ++ items_text (cue_text (label_by l.labels.lines.items)) (take l.place l.cues)
+    ++ items_text (cue_object (label_by l.labels.lines.items)) (take l.place l.cues)

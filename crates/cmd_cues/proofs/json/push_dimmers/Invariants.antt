@@ -1,8 +1,8 @@
 use Rattle.std.proofs.Common.{◌≡◌, ◌++◌, codes, take}
-use Rattle.cmd_cues.specs.Json.{items_text, dimmer_text}
+use Rattle.cmd_cues.specs.Json.{items_text, dimmer_object}
 use Rattle.cmd_cues.proofs.json.push_dimmers.Given as goal
 
 abbrev pub invariant-loop-place : goal.invariant-loop-place
 invariant-loop-place l =
     l.text.items
-    ≡ (l.fn.text.items ++ codes "[") ++ items_text dimmer_text (take l.place l.patch)
+    ≡ (l.fn.text.items ++ codes "[") ++ items_text dimmer_object (take l.place l.patch)

@@ -1,5 +1,5 @@
 use Rattle.std.proofs.Common.{◌≡◌, ◌++◌, codes, take}
-use Rattle.cmd_cues.specs.Json.{items_text, master_text}
+use Rattle.cmd_cues.specs.Json.{items_text, master_object}
 use Rattle.cmd_cues.specs.LabelLines.{label_by}
 use Rattle.cmd_cues.specs.Masters.{record_in}
 use Rattle.cmd_cues.proofs.json.push_masters.Given as goal
@@ -8,5 +8,5 @@ abbrev pub invariant-loop-place : goal.invariant-loop-place
 invariant-loop-place l =
     l.text.items
     ≡ (l.fn.text.items ++ codes "[")
-    ++ items_text (master_text (λ n. label_by l.labels.lines.items (record_in l.of n)))
+    ++ items_text (master_object (λ n. label_by l.labels.lines.items (record_in l.of n)))
     (take l.place l.masters)

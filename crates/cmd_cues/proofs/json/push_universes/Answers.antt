@@ -1,10 +1,10 @@
 use Rattle.std.proofs.Common.{refl}
-use Rattle.cmd_cues.specs.Json.{universe_text}
+use Rattle.cmd_cues.specs.Json.{universe_object}
 use Rattle.cmd_cues.proofs.Items.{next_item}
 use Rattle.cmd_cues.proofs.json.push_universes.Goals as goal
 
 pub loop-place-preserved : goal.loop-place-preserved
 loop-place-preserved c =
-    next_item (universe_text c.args.show.now.patch) c.args.ordinals.now c.loop-place.place _
+    next_item (universe_object c.args.show.now.patch) c.args.ordinals.now c.loop-place.place _
     c.loop-place-test.true _ _ _ _ _ c.loop-place.invariant c.in_ok-push_break.ensures
     c.in_ok-push_universe.ensures refl

@@ -1,9 +1,9 @@
 use Rattle.std.proofs.Common.{◌∙◌, ap, sym}
 use Rattle.cmd_cues.specs.Labels.{label_news_of}
-use Rattle.cmd_cues.proofs.Labelling.{opened_news}
+use Rattle.cmd_cues.proofs.Labelling.{opening_news}
 use Rattle.cmd_cues.proofs.label_line.label_line.Goals as goal
 
 pub returns-in-Opens : goal.returns-in-Opens
 returns-in-Opens c = λ r kind.
-    c.label.ensures r kind ∙ opened_news r c.in-Opens.opened kind c.args.owner c.args.line.now
+    c.label.ensures r kind ∙ opening_news r c.in-Opens.opened kind c.args.owner c.args.line.now
     ∙ ap (λ s. label_news_of r kind c.args.owner s c.args.line.now) (sym c.in-Opens.is)

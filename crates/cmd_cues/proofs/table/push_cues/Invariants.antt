@@ -1,5 +1,5 @@
 use Rattle.std.proofs.Common.{◌≡◌, ◌++◌, flat_map, take}
-use Rattle.cmd_cues.specs.Table.{cue_line}
+use Rattle.cmd_cues.specs.Table.{cue_table_line}
 use Rattle.cmd_cues.specs.LabelLines.{label_by}
 use Rattle.cmd_cues.proofs.table.push_cues.Given as goal
 
@@ -7,4 +7,4 @@ abbrev pub invariant-loop-cue : goal.invariant-loop-cue
 invariant-loop-cue l =
     l.text.items
     ≡ l.fn.text.items
-    ++ flat_map (cue_line (label_by l.labels.lines.items)) (take l.cue-index l.cues)
+    ++ flat_map (cue_table_line (label_by l.labels.lines.items)) (take l.cue-index l.cues)

@@ -1,5 +1,5 @@
 use Rattle.std.proofs.Common.{◌≡◌, ◌++◌, flat_map, take}
-use Rattle.cmd_cues.specs.Table.{master_line}
+use Rattle.cmd_cues.specs.Table.{master_table_line}
 use Rattle.cmd_cues.specs.LabelLines.{label_by}
 use Rattle.cmd_cues.specs.Masters.{masters_head, record_in}
 use Rattle.cmd_cues.proofs.table.push_masters.Given as goal
@@ -8,5 +8,5 @@ abbrev pub invariant-loop-number : goal.invariant-loop-number
 invariant-loop-number l =
     l.text.items
     ≡ (l.fn.text.items ++ masters_head l.of)
-    ++ flat_map (master_line (λ n. label_by l.labels.lines.items (record_in l.of n)))
+    ++ flat_map (master_table_line (λ n. label_by l.labels.lines.items (record_in l.of n)))
     (take l.number-index l.masters)

@@ -1,9 +1,9 @@
 use Rattle.std.proofs.Common.{refl}
-use Rattle.cmd_explain.specs.CueParts.{with_up}
-use Rattle.cmd_explain.proofs.PartLists.{changed_last}
+use Rattle.cmd_explain.specs.CueParts.{part_with_up}
+use Rattle.cmd_explain.proofs.PartLists.{change_last_is}
 use Rattle.cmd_explain.proofs.cue_parts.set_up.Goals as goal
 
 pub returns : goal.returns
 returns c =
-    changed_last (with_up c.args.rate) c.args.parts.now.items c.push.new.self.items
+    change_last_is (part_with_up c.args.rate) c.args.parts.now.items c.push.new.self.items
     c.pop.new.self.items c.in-Some.part _ c.in-Some.ensures.items c.in_ok-push.ensures.items refl

@@ -1,6 +1,6 @@
 use Rattle.std.proofs.Common.{subst, sym}
-use Rattle.cmd_explain.specs.Explained.{IsTextOf}
-use Rattle.cmd_explain.proofs.Told.{its_text}
+use Rattle.cmd_explain.specs.Explanation.{IsTextOf}
+use Rattle.cmd_explain.proofs.WholeText.{its_text}
 use Rattle.cmd_explain.proofs.explanation.explain.Goals as goal
 
 pub returns-clause-text : goal.returns-clause-text

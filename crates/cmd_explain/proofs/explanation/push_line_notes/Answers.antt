@@ -1,5 +1,5 @@
 use Rattle.std.proofs.Common.{◌∙◌, ◌++◌, ap}
-use Rattle.cmd_explain.specs.LineNotes.{hour_note, told_of}
+use Rattle.cmd_explain.specs.LineNotes.{hour_note, notes_of_kind}
 use Rattle.cmd_explain.specs.NotesOf.{weighty_line_notes}
 use Rattle.cmd_explain.proofs.Pieces.{joins}
 use Rattle.cmd_explain.proofs.explanation.push_line_notes.Goals as goal
@@ -7,7 +7,7 @@ use Rattle.cmd_explain.proofs.explanation.push_line_notes.Goals as goal
 pub returns : goal.returns
 returns c = λ lines are.
     let show = c.args.show.now in
-    joins c.args.text.now.items (weighty_line_notes show lines) (told_of hour_note lines)
+    joins c.args.text.now.items (weighty_line_notes show lines) (notes_of_kind hour_note lines)
     (c.in_ok-push_weighty.ensures lines are)
     (c.in_ok-extend_from_slice.ensures.items
     ∙ ap (λ hours. c.push_weighty.new.text.items ++ hours) (c.as_slice.ensures.value ∙ are.hours))

@@ -1,10 +1,10 @@
 use Rattle.std.proofs.Common.{◌≡◌, ◌++◌, flat_map, map, take}
-use Rattle.cmd_explain.specs.Explained.{text_line}
-use Rattle.cmd_explain.specs.Skipped.{shown}
+use Rattle.cmd_explain.specs.Explanation.{text_line}
+use Rattle.cmd_explain.specs.Skipped.{display_text}
 use Rattle.cmd_explain.proofs.explanation.push_lines.Given as goal
 
 abbrev pub invariant-loop-line : goal.invariant-loop-line
 invariant-loop-line l =
     l.text.items
     ≡ l.fn.text.items
-    ++ flat_map text_line (map (λ line. shown line.items) (take l.line-index l.lines))
+    ++ flat_map text_line (map (λ line. display_text line.items) (take l.line-index l.lines))

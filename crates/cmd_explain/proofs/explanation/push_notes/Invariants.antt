@@ -1,10 +1,10 @@
 use Rattle.std.proofs.Common.{◌≡◌, ◌++◌, flat_map, map, take}
-use Rattle.cmd_explain.specs.Explained.{note_line}
-use Rattle.cmd_explain.specs.Skipped.{shown}
+use Rattle.cmd_explain.specs.LineNotes.{note_line}
+use Rattle.cmd_explain.specs.Skipped.{display_text}
 use Rattle.cmd_explain.proofs.explanation.push_notes.Given as goal
 
 abbrev pub invariant-loop-note : goal.invariant-loop-note
 invariant-loop-note l =
     l.text.items
     ≡ l.fn.text.items
-    ++ flat_map note_line (map (λ note. shown note.items) (take l.note-index l.notes))
+    ++ flat_map note_line (map (λ note. display_text note.items) (take l.note-index l.notes))

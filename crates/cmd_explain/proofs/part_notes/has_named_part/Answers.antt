@@ -5,7 +5,7 @@ use Rattle.std.specs.List.{list_any}
 use Rattle.std.proofs.lemmas.List.Folds.{list_any-append}
 use Rattle.cmd_explain.specs.CueParts.{CuePart, part_of}
 use Rattle.cmd_explain.proofs.PartLists.{first_of, of_cue}
-use Rattle.cmd_explain.proofs.part_notes.has_named.Goals as goal
+use Rattle.cmd_explain.proofs.part_notes.has_named_part.Goals as goal
 
 named_kept : (name : Option (Vec ℕ Global)) → is_some name ≡ true
     → is_some (option_map (λ bytes. bytes.items) name) ≡ true

@@ -2,7 +2,7 @@ use Rattle.std.proofs.Common.{◌≡◌, ◌==◌, false, map, take}
 use Rattle.std.specs.Prelude.{filter, is_some}
 use Rattle.std.specs.List.{list_any}
 use Rattle.cmd_explain.specs.CueParts.{part_of}
-use Rattle.cmd_explain.proofs.part_notes.has_named.Given as goal
+use Rattle.cmd_explain.proofs.part_notes.has_named_part.Given as goal
 
 -- none of those before has a name
 abbrev pub invariant-loop-part : goal.invariant-loop-part

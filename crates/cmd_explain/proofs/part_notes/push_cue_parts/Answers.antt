@@ -3,20 +3,20 @@ use Rattle.std.proofs.Common.{rules}
 use Rattle.std.specs.Prelude.{is_some}
 use Rattle.std.specs.List.{list_any}
 use Rattle.std.proofs.lemmas.List.{take_all}
-use Rattle.cmd_explain.specs.CueParts.{CuePart, first_times, last_times, part_of, part_told}
-use Rattle.cmd_explain.specs.CueParts.{parts_told, times_or}
+use Rattle.cmd_explain.specs.CueParts.{CuePart, first_times, last_times, part_of, part_note}
+use Rattle.cmd_explain.specs.CueParts.{cue_part_notes, times_or}
 use Rattle.cmd_explain.specs.declared.cue_parts.Times.{Times}
-use Rattle.cmd_explain.proofs.PartLists.{of_cue, told_more, told_same}
+use Rattle.cmd_explain.proofs.PartLists.{of_cue, tell_more, tell_same}
 use Rattle.cmd_explain.proofs.part_notes.push_cue_parts.Goals as goal
 use Rattle.cmd_explain.proofs.part_notes.push_cue_parts.Goals.{then-part-cue+in_ok-push_part}
 use Rattle.cmd_explain.proofs.part_notes.push_cue_parts.Goals.{else-part-cue}
 
-told_whole : (parts : List CuePart) (named : Bool) (first last : Times)
+whole_text : (parts : List CuePart) (named : Bool) (first last : Times)
     → named ≡ list_any (λ p. is_some p.name) parts → named ≡ true
     → first ≡ first_times parts → last ≡ last_times parts
-    → flat_map (λ p. part_told p (times_or p.times first) last) parts ≡ parts_told parts
-told_whole parts named first last has is firsts lasts =
-    let tell = λ (f : Times) (l : Times) (p : CuePart). part_told p (times_or p.times f) l in
+    → flat_map (λ p. part_note p (times_or p.times first) last) parts ≡ cue_part_notes parts
+whole_text parts named first last has is firsts lasts =
+    let tell = λ (f : Times) (l : Times) (p : CuePart). part_note p (times_or p.times f) l in
     ap (λ f. flat_map (tell f last) parts) firsts
     ∙ ap (λ l. flat_map (tell (first_times parts) l) parts) lasts
     ∙ ap (λ b. cond b (flat_map (tell (first_times parts) (last_times parts)) parts) [])
@@ -31,16 +31,16 @@ loop-part-preserved c =
     let old : List ℕ = c.args.out.now.items in
     let first = c.first_times-first.result in
     let last = c.last_times-last.result in
-    let tell = λ (q : CuePart). part_told q (times_or q.times first) last in
+    let tell = λ (q : CuePart). part_note q (times_or q.times first) last in
     elim c.if-part-cue.branch [
       | then-part-cue+in_ok-push_part w ↦
-          told_more cue parts i p c.loop-part-test.true c.part-item.is w.if-part-cue.true tell old
+          tell_more cue parts i p c.loop-part-test.true c.part-item.is w.if-part-cue.true tell old
           c.loop-part.invariant
           (ap (λ v. v.items) w.out-is ∙ w.in_ok-push_part.ensures
-          ∙ ap (λ t. c.loop-part.out.items ++ part_told (part_of p) t last) w.or.ensures)
+          ∙ ap (λ t. c.loop-part.out.items ++ part_note (part_of p) t last) w.or.ensures)
       | else-part-cue w ↦
           ap (λ v. v.items) w.out-is
-          ∙ told_same cue parts i p c.loop-part-test.true c.part-item.is w.if-part-cue.false tell
+          ∙ tell_same cue parts i p c.loop-part-test.true c.part-item.is w.if-part-cue.false tell
           old c.loop-part.invariant
     ]
 
@@ -52,9 +52,9 @@ returns c =
     let old : List ℕ = c.args.out.now.items in
     let first = c.first_times-first.result in
     let last = c.last_times-last.result in
-    let tell = λ (q : CuePart). part_told q (times_or q.times first) last in
-    let named : c.has_named.result ≡ true = search rules in
+    let tell = λ (q : CuePart). part_note q (times_or q.times first) last in
+    let named : c.has_named_part.result ≡ true = search rules in
     c.loop-part.invariant
     ∙ ap (λ ps. old ++ flat_map tell (of_cue cue ps)) (take_all i parts c.loop-part-test.false)
-    ∙ ap (λ t. old ++ t) (told_whole (of_cue cue parts) c.has_named.result first last
-    c.has_named.ensures named c.first_times-first.ensures c.last_times-last.ensures)
+    ∙ ap (λ t. old ++ t) (whole_text (of_cue cue parts) c.has_named_part.result first last
+    c.has_named_part.ensures named c.first_times-first.ensures c.last_times-last.ensures)

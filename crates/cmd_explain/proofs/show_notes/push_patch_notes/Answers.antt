@@ -19,7 +19,13 @@ no_patch show none = sym (ap (λ b. cond b (dark_notes show) no_patch_note) none
 pub returns-then-is_empty : goal.returns-then-is_empty
 returns-then-is_empty c =
     let none : nat_lt 0 (length (maps.entries c.args.show.now.patch)) ≡ false =
-    grind (arith, nat_tests, c.is_empty.ensures, c.if-is_empty.true, ap length c.patch.ensures.entries) in
+    grind (
+      arith,
+      nat_tests,
+      c.is_empty.ensures,
+      c.if-is_empty.true,
+      ap length c.patch.ensures.entries,
+    ) in
     subst (λ t. OnOk c.push_no_patch.result
     (c.push_no_patch.new.out.items ≡ c.args.out.now.items ++ t))
     (no_patch c.args.show.now none) c.push_no_patch.ensures
@@ -27,6 +33,12 @@ returns-then-is_empty c =
 pub returns-else-is_empty : goal.returns-else-is_empty
 returns-else-is_empty c =
     let some : nat_lt 0 (length (maps.entries c.args.show.now.patch)) ≡ true =
-    grind (arith, nat_tests, c.is_empty.ensures, c.if-is_empty.false, ap length c.patch.ensures.entries) in
+    grind (
+      arith,
+      nat_tests,
+      c.is_empty.ensures,
+      c.if-is_empty.false,
+      ap length c.patch.ensures.entries,
+    ) in
     subst (λ t. OnOk c.push_dark.result (c.push_dark.new.out.items ≡ c.args.out.now.items ++ t))
     (some_patch c.args.show.now some) c.push_dark.ensures

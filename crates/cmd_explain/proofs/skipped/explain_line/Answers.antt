@@ -4,17 +4,18 @@ use Rattle.ascii_text.specs.Text.{words_of}
 use Rattle.show_line.specs.Said.{desk_limits, line_reading}
 use Rattle.cmd_explain.specs.Headings.{owner_of, heading_below}
 use Rattle.cmd_explain.specs.Reasons.{reason_of}
-use Rattle.cmd_explain.specs.Skipped.{skipped_line, line_explained, words_in}
-use Rattle.cmd_explain.proofs.Lines.{explained_here}
+use Rattle.cmd_explain.specs.Skipped.{skipped_line, skipped_line_below, words_in}
+use Rattle.cmd_explain.proofs.Lines.{skipped_line_here}
 use Rattle.cmd_explain.proofs.skipped.explain_line.Goals as goal
 use Rattle.cmd_explain.proofs.skipped.explain_line.Goals.{After-may_own, else-is_skipped}
-use Rattle.cmd_explain.proofs.skipped.explain_line.Goals.{then-is_skipped+in_ok-push_skipped}
+use Rattle.cmd_explain.proofs.skipped.explain_line.Goals.{then-is_skipped+in_ok-push_skipped_line}
 
 -- what was appended explains the line
 appended : (c : After-may_own) (lines : List (List ℕ))
     → c.args.above ≡ heading_below (words_in lines)
     → c.args.line.number ≡ length lines + 1
-    → c.if-is_skipped.out.items ≡ c.args.out.now.items ++ line_explained lines c.args.line.bytes.now
+    → c.if-is_skipped.out.items
+    ≡ c.args.out.now.items ++ skipped_line_below lines c.args.line.bytes.now
 appended c lines heads numbered =
     let before : List ℕ = c.args.out.now.items in
     let bytes : List ℕ = c.args.line.bytes.now in
@@ -22,10 +23,10 @@ appended c lines heads numbered =
     let reading = c.in-Some.reading in
     let read : Some reading ≡ line_reading desk_limits (owner_of c.args.above) l =
     c.in-Some.ensures.means ∙ ap (λ o. line_reading desk_limits o l) c.owner.ensures in
-    let here = explained_here lines bytes c.args.above heads reading read c.args.line.number in
+    let here = skipped_line_here lines bytes c.args.above heads reading read c.args.line.number in
     elim c.if-is_skipped.branch [
-      | then-is_skipped+in_ok-push_skipped w ↦
-          ap (λ v. v.items) w.out-is ∙ w.in_ok-push_skipped.ensures
+      | then-is_skipped+in_ok-push_skipped_line w ↦
+          ap (λ v. v.items) w.out-is ∙ w.in_ok-push_skipped_line.ensures
           ∙ ap (λ r. before ++ skipped_line c.args.line.number r bytes)
           (w.reason_of-reason.ensures
           ∙ ap (reason_of c.args.above reading.keyword) w.operands.ensures)

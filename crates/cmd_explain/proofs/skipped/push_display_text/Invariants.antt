@@ -1,7 +1,7 @@
 use Rattle.std.proofs.Common.{◌≡◌, ◌++◌, map, take}
-use Rattle.cmd_explain.specs.Skipped.{shown_byte}
-use Rattle.cmd_explain.proofs.skipped.push_shown.Given as goal
+use Rattle.cmd_explain.specs.Skipped.{display_byte}
+use Rattle.cmd_explain.proofs.skipped.push_display_text.Given as goal
 
 abbrev pub invariant-loop-byte : goal.invariant-loop-byte
 invariant-loop-byte l =
-    l.out.items ≡ l.fn.out.items ++ map shown_byte (take l.byte-index l.bytes)
+    l.out.items ≡ l.fn.out.items ++ map display_byte (take l.byte-index l.bytes)

@@ -1,7 +1,7 @@
 use Rattle.std.proofs.Common.{◌≡◌, ◌∙◌, ◌+◌, ◌∷◌, ◌++◌, length, sym, ap, arith}
 use mathlib.Core.List.{reverse_aux}
 use Rattle.ascii_text.specs.Text.{numbered_from}
-use Rattle.cmd_explain.specs.Skipped.{line_explained}
+use Rattle.cmd_explain.specs.Skipped.{skipped_line_below}
 use Rattle.cmd_explain.proofs.Lines.{all_read, next_numbered, no_more}
 use Rattle.cmd_explain.proofs.skipped.skipped_lines.Goals as goal
 
@@ -29,7 +29,7 @@ loop-line-preserved c =
         heads = c.in_ok-above.ensures.heading lines before.2.heads;
         wrote =
             c.in_ok-above.ensures.text lines before.2.heads next.3
-            ∙ ap (λ out. out ++ line_explained lines bytes) before.2.wrote;
+            ∙ ap (λ out. out ++ skipped_line_below lines bytes) before.2.wrote;
       },
     )
 

@@ -1,7 +1,7 @@
 use Rattle.std.proofs.Common.{◌∙◌, ◌++◌, ap}
 use Rattle.std.proofs.Common.{◌≡◌, map, reverse, sym}
 use Rattle.std.proofs.lemmas.List.{reverse-reverse}
-use Rattle.cmd_explain.specs.CueParts.{cues_told, part_notes, part_of, parts_below}
+use Rattle.cmd_explain.specs.CueParts.{notes_on_cues, part_notes, part_of, parts_below}
 use Rattle.cmd_explain.specs.NotesOf.{statement_notes}
 use Rattle.cmd_explain.proofs.Pieces.{joins}
 use Rattle.cmd_explain.proofs.weight.push_weighty.Goals as goal
@@ -14,9 +14,9 @@ returns c = λ lines are.
     sym (reverse-reverse (map part_of parts)) ∙ ap reverse are.parts in
     joins c.args.text.now.items (part_notes show lines) (statement_notes show lines)
     (c.in_ok-push_part_notes.ensures
-    ∙ ap (λ ps. c.args.text.now.items ++ cues_told (map part_of ps) c.as_slice-2.result.now)
+    ∙ ap (λ ps. c.args.text.now.items ++ notes_on_cues (map part_of ps) c.as_slice-2.result.now)
     c.as_slice.ensures.value
-    ∙ ap (λ ps. c.args.text.now.items ++ cues_told ps c.as_slice-2.result.now) listed
-    ∙ ap (λ ns. c.args.text.now.items ++ cues_told (reverse (parts_below lines)) ns)
+    ∙ ap (λ ps. c.args.text.now.items ++ notes_on_cues ps c.as_slice-2.result.now) listed
+    ∙ ap (λ ns. c.args.text.now.items ++ notes_on_cues (reverse (parts_below lines)) ns)
     (c.as_slice-2.ensures.value ∙ c.in_ok-cues.ensures))
     (c.in_ok-push_statement_notes.ensures show lines are)

@@ -2,7 +2,7 @@ use Rattle.std.proofs.Common.{◌≡◌, ◌∙◌, ◌+◌, [], ◌∷◌, leng
 use mathlib.Core.List.{reverse_aux}
 use Rattle.ascii_text.specs.Text.{lines_of, numbered_from}
 use Rattle.cmd_explain.proofs.Lines.{next_numbered}
-use Rattle.cmd_explain.proofs.NoteLines.{all_noted, none_more}
+use Rattle.cmd_explain.proofs.NoteLines.{notes_of_all, none_more}
 use Rattle.cmd_explain.proofs.note_lines.LineNotes.read.Goals as goal
 
 pub loop-line-init : goal.loop-line-init
@@ -22,7 +22,7 @@ returns-then-line-lines c =
     let before = c.loop-line.invariant in
     let next = next_numbered (length before.0 + 1) before.1 _ _ _
     (sym c.in-Some.ensures.steps ∙ before.2.numbered) in
-    all_noted before.2 (omega (arith, before.2.within, next.3, c.if-line-lines.true))
+    notes_of_all before.2 (omega (arith, before.2.within, next.3, c.if-line-lines.true))
 
 pub loop-line-preserved : goal.loop-line-preserved
 loop-line-preserved c =

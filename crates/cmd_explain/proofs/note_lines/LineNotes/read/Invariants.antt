@@ -1,8 +1,8 @@
 use Rattle.std.proofs.Common.{ℕ, List}
 use Rattle.ascii_text.specs.LinesLeft.{lines_left}
-use Rattle.cmd_explain.proofs.NoteLines.{NotedBehind}
+use Rattle.cmd_explain.proofs.NoteLines.{NotesBehind}
 use Rattle.cmd_explain.proofs.note_lines.LineNotes.read.Given as goal
 
 abbrev pub invariant-loop-line : goal.invariant-loop-line
 invariant-loop-line l = (lines : List (List ℕ)) × (left : List (List ℕ))
-    × NotedBehind l.show l.text l.lines lines left (lines_left l.line-iterator) l.notes
+    × NotesBehind l.show l.text l.lines lines left (lines_left l.line-iterator) l.notes

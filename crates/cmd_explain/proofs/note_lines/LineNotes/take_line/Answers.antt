@@ -4,7 +4,7 @@ use Rattle.show_line.specs.Said.{desk_limits, line_reading}
 use Rattle.cmd_explain.specs.Headings.{heading_below, owner_of}
 use Rattle.cmd_explain.specs.NotesOf.{unknown_count, unknown_in}
 use Rattle.cmd_explain.specs.Skipped.{words_in}
-use Rattle.cmd_explain.proofs.Lines.{keyword_is, said_is}
+use Rattle.cmd_explain.proofs.Lines.{keyword_is, statement_is}
 use Rattle.cmd_explain.proofs.NoteLines.{few_unknown, has_words, heading_more, notes_more}
 use Rattle.cmd_explain.proofs.NoteLines.{unknown_is}
 use Rattle.cmd_explain.proofs.note_lines.LineNotes.take_line.Goals as goal
@@ -37,7 +37,7 @@ returns c = λ lines was numbered.
       c.ranges.line,
     ) in
     notes_more lines bytes c.args.line.number reading.statement numbered
-    (said_is lines bytes above was.heads reading read) c.args.show.now reading.keyword
+    (statement_is lines bytes above was.heads reading read) c.args.show.now reading.keyword
     (keyword_is lines bytes above was.heads reading read)
     (has_words (owner_of above) (words_of bytes) reading read) c.args.self.now c.note.new.self was
     c.begin_part.new.parts c.in_ok-begin_part.ensures added c.below-below.result heads

@@ -1,8 +1,9 @@
 use Rattle.std.proofs.Common.{◌≡◌, drop}
-use Rattle.cmd_explain.specs.LineNotes.{opened_on}
+use Rattle.cmd_explain.specs.LineNotes.{opening_line}
 use Rattle.cmd_explain.proofs.openings.Openings.line_of.Given as goal
 
 -- the openings that are left have what all openings have of a record
 abbrev pub invariant-loop-opening : goal.invariant-loop-opening
 invariant-loop-opening l =
-    opened_on l.which l.self.list.items ≡ opened_on l.which (drop l.opening-index l.self.list.items)
+    opening_line l.which l.self.list.items
+    ≡ opening_line l.which (drop l.opening-index l.self.list.items)

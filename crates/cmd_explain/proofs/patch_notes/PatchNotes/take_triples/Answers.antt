@@ -1,6 +1,6 @@
 use Rattle.std.proofs.Common.{◌≡◌, ◌∷◌, ◌++◌, List, ℕ, ap, ◌∙◌, append_assoc}
-use Rattle.cmd_explain.specs.PatchNotes.{sheet_after_triples, sheet_of, triple_told}
-use Rattle.cmd_explain.specs.PatchNotes.{triples_told}
+use Rattle.cmd_explain.specs.PatchNotes.{sheet_after_triples, sheet_of, triple_note}
+use Rattle.cmd_explain.specs.PatchNotes.{triple_notes}
 use Rattle.cmd_explain.proofs.patch_notes.PatchNotes.take_triples.Goals as goal
 
 pub loop-triple-preserved : goal.loop-triple-preserved
@@ -11,14 +11,15 @@ loop-triple-preserved c =
     let taken = c.in_ok-take_triple.ensures in
     let rest = c.next.new.self in
     let old : List ℕ = c.loop-triple.self.notes.items in
-    let told : List ℕ = triple_told c.args.number c.in-Some.triple
+    let told : List ℕ = triple_note c.args.number c.in-Some.triple
     (sheet_of c.loop-triple.self c.in-Some.triple.dimmer) in
     record {
       sheet =
           ap (sheet_after_triples c.args.number rest) taken.sheet ∙ rw front at before.sheet;
       notes =
-          ap (λ n. n ++ triples_told c.args.number rest (sheet_of c.take_triple.new.self)) taken.notes
+          ap (λ n. n ++ triple_notes c.args.number rest (sheet_of c.take_triple.new.self))
+          taken.notes
           ∙ append_assoc old told _
-          ∙ ap (λ s. old ++ (told ++ triples_told c.args.number rest s)) taken.sheet
+          ∙ ap (λ s. old ++ (told ++ triple_notes c.args.number rest s)) taken.sheet
           ∙ rw front at before.notes;
     }
