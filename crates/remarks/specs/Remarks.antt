@@ -4,11 +4,11 @@ use Rattle.std.specs.Prelude.{take}
 use Rattle.std.specs.Str.{chars}
 use Rattle.std.specs.declared.io.ErrorKind.{ErrorKind}
 use Rattle.live_machine.specs.Failure.{words_for}
-use Rattle.cmd_explain.specs.Skipped.{shown}
+use Rattle.cmd_explain.specs.Skipped.{display_text}
 
 -- what is shown of a part, as of a line of a file: its first 200 bytes
 abbrev pub excerpt : List ℕ → List ℕ
-excerpt part = shown (take 200 part)
+excerpt part = display_text (take 200 part)
 
 -- the remark that these parts make, one behind the other: the first 512 bytes
 unfoldable pub remark_of : List (List ℕ) → List ℕ

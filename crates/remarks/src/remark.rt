@@ -1,5 +1,5 @@
 ghost use Rattle.std.specs.Prelude.{◌≡◌, ◌++◌, [], ◌∷◌, codes, map, take};
-ghost use Rattle.cmd_explain.specs.Skipped.{shown, shown_byte};
+ghost use Rattle.cmd_explain.specs.Skipped.{display_byte, display_text};
 ghost use Rattle.remarks.specs.Remarks.{excerpt, of_device, of_seeming, remark_of};
 
 use arrayvec::ArrayVec;
@@ -77,17 +77,17 @@ fn first_bytes<'a>(part: &'a [u8]) -> &'a [u8]
 
 // Adds as many as there is room for.
 fn push_all(remark: &mut Remark, bytes: &[u8])
-    ensures { remark.new.items ≡ take 512 (remark.old.items ++ shown bytes.now) }
+    ensures { remark.new.items ≡ take 512 (remark.old.items ++ display_text bytes.now) }
 {
     let room = remark.remaining_capacity();
     let fitting = &bytes[..bytes.len().min(room)];
     for byte in fitting {
-        remark.push(shown_byte(*byte));
+        remark.push(display_byte(*byte));
     }
 }
 
-fn shown_byte(byte: u8) -> u8
-    ensures { result ≡ shown_byte byte }
+fn display_byte(byte: u8) -> u8
+    ensures { result ≡ display_byte byte }
 {
     match byte {
         b'\t' | b'\r' => b' ',
