@@ -1,7 +1,7 @@
 -- What is read of files and of standard input.
 use Rattle.std.specs.Prelude.{◌≡◌, ◌⊎◌}
 use Rattle.cmd_faults.specs.declared.fault.RunFault.TheVariants as run
-use Rattle.cueplayer.specs.declared.failure.Failure.{Failure}
+use Rattle.remarks.specs.declared.failure.Failure.{Failure}
 
 -- a text could not be read whole: a device failed, or a growth was refused
 abbrev pub IsUnread : Failure → Type 0

@@ -1,18 +1,16 @@
-use crate::failure::{Failure, JobFault};
-use crate::remark::{Remark, of_name, push_shown};
+use crate::device_failure::of_socket_fault;
 use arrayvec::{ArrayString, ArrayVec};
 use cmd_faults::RunFault;
 use cmd_words::{Name, Night};
-use network_tables::{
-    Card, CardName, CardRefusal, CardState, CardWord, Cards, card_text, choose, host_text,
-};
+use network_tables::{Card, CardRefusal, CardState, CardWord, Cards, choose};
+use remarks::{DownCards, Failure, JobFault, Remark, of_card, of_route, of_target};
 use show_reader::read_show;
 use std::fmt::Write;
-use system_devices::{Leaving, Network, Path, card_state, read_cards};
-use targets::{TargetMisfit, Targets};
+use system_devices::{Leaving, Network, card_state, read_cards};
+use targets::Targets;
 
-// Why a card cannot be sent by.
-type CardLine = ArrayString<480>;
+// The names of cards, with commas between them.
+type CardNames = ArrayString<160>;
 
 /// Refuses targets that do not suit the universes of a show.
 ///
@@ -36,7 +34,7 @@ pub fn check_targets(rt: &HostRuntime, night: &Night, show: &[u8]) -> Result<(),
     }
     match night.targets.misfit(universes.as_slice()) {
         None => Ok(()),
-        Some(misfit) => Err(JobFault::Words(of_misfit(misfit))),
+        Some(misfit) => Err(JobFault::Words(of_target(misfit))),
     }
 }
 
@@ -46,39 +44,6 @@ fn suits_all(targets: &Targets) -> bool {
         [only] => only.universes.is_none(),
         _ => false,
     }
-}
-
-fn of_misfit(misfit: TargetMisfit) -> Remark {
-    let mut line = ArrayString::<160>::new();
-    let _ = match misfit {
-        TargetMisfit::NoUniverse { universe } => {
-            write!(
-                line,
-                "--to names universe {universe}: the show does not have it"
-            )
-        }
-        TargetMisfit::NoTarget { universe } => {
-            write!(
-                line,
-                "universe {universe} has no target: --to names none for it, and none for all"
-            )
-        }
-        TargetMisfit::Twice { universe, address } => {
-            let host = host_text(address.host);
-            let (host, port) = (host.as_str(), address.port);
-            write!(
-                line,
-                "universe {universe} has the target {host}:{port} twice"
-            )
-        }
-    };
-    remark_of(line.as_str())
-}
-
-fn remark_of(text: &str) -> Remark {
-    let mut remark = Remark::new();
-    let _ = remark.try_extend_from_slice(text.as_bytes());
-    remark
 }
 
 /// Opens the sockets of a night.
@@ -98,7 +63,7 @@ pub fn open_network(
         ttl: night.ttl,
         never_waits,
     };
-    let network = Network::open(rt, &night.targets, leaving).map_err(Failure::from)?;
+    let network = Network::open(rt, &night.targets, leaving).map_err(of_socket_fault)?;
     match other_route(&network, night.interface.is_some()) {
         None => Ok(network),
         Some(remark) => Err(JobFault::Words(remark)),
@@ -109,24 +74,12 @@ pub fn open_network(
 fn other_route(network: &Network, is_named: bool) -> Option<Remark> {
     for path in network.paths() {
         if let Some(other) = path.state.refused_card(is_named) {
-            return Some(of_route(network, path, &other));
+            let source = network.source_of(path);
+            let card = source.map_or("the card", |source| source.card.as_str());
+            return Some(of_route(path.host, card, other.as_str()));
         }
     }
     None
-}
-
-fn of_route(network: &Network, path: &Path, other: &CardName) -> Remark {
-    let host = host_text(path.host);
-    let source = network.source_of(path);
-    let card = source.map_or("the card", |source| source.card.as_str());
-    let mut line = ArrayString::<160>::new();
-    let _ = write!(
-        line,
-        "the route to {} leads by {}, and not by {card}: --any-route sends by it",
-        host.as_str(),
-        other.as_str(),
-    );
-    remark_of(line.as_str())
 }
 
 // The address that packets come from, where a card is named.
@@ -140,7 +93,7 @@ fn source_of(rt: &HostRuntime, night: &Night) -> Result<Option<[u8; 4]>, JobFaul
     let state = state_of(rt, &row);
     match choose(&word, row, state) {
         Ok(address) => Ok(Some(address)),
-        Err(refusal) => Err(JobFault::Words(of_card(rt, named, refusal, &cards))),
+        Err(refusal) => Err(JobFault::Words(of_refusal(rt, named, refusal, &cards))),
     }
 }
 
@@ -153,45 +106,8 @@ fn state_of(rt: &HostRuntime, row: &Option<Card>) -> CardState {
     CardState::Up
 }
 
-// Why a card that was named cannot be sent by, and what to do.
-fn of_card(rt: &HostRuntime, named: &str, refusal: CardRefusal, cards: &Cards) -> Remark {
-    let shown = of_name(named);
-    let shown = shown.as_str();
-    let address = address_word(cards);
-    let mut line = CardLine::new();
-    let _ = match refusal {
-        CardRefusal::NoAddress => write!(line, "no card has {shown}: "),
-        CardRefusal::NoCard => write!(line, "no card {shown}: "),
-        CardRefusal::UnknownCard => {
-            push_own_address(rt, &mut line, shown, cards);
-            Ok(())
-        }
-        CardRefusal::Down => write!(line, "{shown} is down: ip link set {shown} up; "),
-        CardRefusal::NoLink => write!(
-            line,
-            "{shown} has no link and no {address}: check the cable; "
-        ),
-        CardRefusal::WithoutAddress => write!(line, "{shown} has no {address}: "),
-    };
-    let mut remark = remark_of(line.as_str());
-    push_cards(&mut remark, cards);
-    remark
-}
-
-// What a card without a row of its own does not have. Where the card of an address is not known, it
-// may be this one.
-fn address_word(cards: &Cards) -> &'static str {
-    if cards.are_known() {
-        "address"
-    } else {
-        "known address"
-    }
-}
-
-// Adds that this machine has an address, and that no card is known to have it. One that is down
-// may: the system's files do not tell.
-fn push_own_address(rt: &HostRuntime, line: &mut CardLine, address: &str, cards: &Cards) {
-    let mut names = ArrayString::<160>::new();
+// Adds the cards without an address that are down, where there is room for their names.
+fn down_cards(rt: &HostRuntime, names: &mut CardNames, cards: &Cards) -> usize {
     let mut count = 0_usize;
     for card in cards.as_slice() {
         let (Some(name), None) = (&card.name, card.address) else {
@@ -204,29 +120,16 @@ fn push_own_address(rt: &HostRuntime, line: &mut CardLine, address: &str, cards:
             count = count.saturating_add(1);
         }
     }
-    let names = names.as_str();
-    let _ = match count {
-        0 => write!(line, "no card is known to have {address}: "),
-        _ => write!(
-            line,
-            "no card that is up is known to have {address}: {names} "
-        ),
-    };
-    let _ = match count {
-        0 => Ok(()),
-        1 => write!(line, "is down; ip link set {names} up; "),
-        _ => write!(line, "are down; ip link set NAME up; "),
-    };
+    count
 }
 
-// Adds which cards can be sent by.
-fn push_cards(remark: &mut Remark, cards: &Cards) {
-    let mut front = "there are ";
-    for card in cards.as_slice() {
-        if let (Some(name), Some(address)) = (&card.name, card.address) {
-            push_shown(remark, front.as_bytes());
-            push_shown(remark, card_text(name, address).as_str().as_bytes());
-            front = ", ";
-        }
-    }
+// Why a card that was named cannot be sent by.
+fn of_refusal(rt: &HostRuntime, named: &str, refusal: CardRefusal, cards: &Cards) -> Remark {
+    let mut names = CardNames::new();
+    let count = match refusal {
+        CardRefusal::UnknownCard => down_cards(rt, &mut names, cards),
+        _ => 0,
+    };
+    let names = names.as_str();
+    of_card(named, refusal, cards, DownCards { names, count })
 }

@@ -1,39 +1,35 @@
-use crate::failure::{Failure, JobFault};
-use crate::refusal::Refusal;
 use arrayvec::ArrayString;
 use cmd_faults::RunFault;
+use remarks::{Failure, JobFault, Refusal};
 use std::fmt::Write;
 use std::io::ErrorKind;
 use system_devices::{DeviceFault, LockFault, RecordFault, SocketFault};
 
-impl From<DeviceFault> for Failure {
-    fn from(fault: DeviceFault) -> Failure {
-        match fault {
-            DeviceFault::Device(name, kind) => Failure::of_device(name, kind),
-            DeviceFault::Memory => Failure::from(RunFault::Memory),
-        }
+/// A device failed.
+pub fn of_device_fault(fault: DeviceFault) -> Failure {
+    match fault {
+        DeviceFault::Device(name, kind) => Failure::of_device(name, kind),
+        DeviceFault::Memory => Failure::from(RunFault::Memory),
     }
 }
 
-impl From<SocketFault> for Failure {
-    fn from(fault: SocketFault) -> Failure {
-        Failure::of_device(fault.address.as_str(), fault.kind)
-    }
+/// A socket failed.
+pub fn of_socket_fault(fault: SocketFault) -> Failure {
+    Failure::of_device(fault.address.as_str(), fault.kind)
 }
 
-impl From<LockFault> for Failure {
-    fn from(fault: LockFault) -> Failure {
-        let LockFault::Held(path) = fault else {
-            return Failure::from(RunFault::Memory);
-        };
-        let mut words = ArrayString::<700>::new();
-        let path = path.as_str();
-        let _ = write!(
-            words,
-            "another console on this machine sends under this CID, by {path}"
-        );
-        Failure::device(words.as_str())
-    }
+/// The lock of a CID is not had.
+pub fn of_lock_fault(fault: LockFault) -> Failure {
+    let LockFault::Held(path) = fault else {
+        return Failure::from(RunFault::Memory);
+    };
+    let mut words = ArrayString::<700>::new();
+    let path = path.as_str();
+    let _ = write!(
+        words,
+        "another console on this machine sends under this CID, by {path}"
+    );
+    Failure::device(words.as_str())
 }
 
 /// Why a record in the file of this name cannot be kept.
@@ -48,7 +44,7 @@ pub fn of_record(name: &str, fault: RecordFault) -> JobFault {
         RecordFault::NoLocks => {
             Failure::device("no lock can be made on the record: a spare could not tell who plays")
         }
-        RecordFault::Way(fault) => Failure::from(fault),
+        RecordFault::Way(fault) => of_device_fault(fault),
         RecordFault::Memory => Failure::from(RunFault::Memory),
     };
     JobFault::Run(failure)

@@ -1,7 +1,6 @@
 ghost use Rattle.std.specs.Prelude.{OnOk};
 ghost use Rattle.cueplayer.specs.Opening.{CanFollow};
 
-use crate::failure::{Failure, JobFault};
 use crate::jobs::{link_of, night_end, run_end};
 use crate::link_watch::LinkTeller;
 use crate::live_devices::{Beginning, LiveDevices, now};
@@ -9,7 +8,6 @@ use crate::live_job::{MainWords, NightEnd, Playbill, place_of};
 use crate::main_record::MainRecord;
 use crate::opening::{head_of, new_night};
 use crate::reading::record_lines;
-use crate::refusal::Refusal;
 use crate::standard::Standard;
 use crate::start_lines::StartLines;
 use cmd_faults::RunFault;
@@ -18,6 +16,7 @@ use devices::Link;
 use fade::{Fader, StepFader};
 use night_lines::{MainNight, Recording};
 use night_record::{RecordHead, UnfitMain, main_head};
+use remarks::{Failure, JobFault, Refusal};
 use std::cell::RefCell;
 use system_devices::{AppendedLines, CardSender, Network};
 use targets::TargetLink;

@@ -3,11 +3,9 @@ ghost use Rattle.cmd_words.specs.Job.{IsJobInRange};
 ghost use Rattle.cueplayer.specs.Source.{source_name};
 
 use crate::cards::open_network;
-use crate::device_failure::of_socket;
-use crate::failure::{Failure, JobFault};
+use crate::device_failure::{of_lock_fault, of_socket, of_socket_fault};
 use crate::live_job::{LiveWords, MainWords, play_live};
 use crate::reading::{file_text, script_text, show_text, suitable_show};
-use crate::remark::{of_device, of_seeming, of_weight, plain};
 use crate::source_name::source_name;
 use crate::standard::ask_for_standard;
 use cmd_cues::{cues, cues_json};
@@ -20,6 +18,7 @@ use cmd_show::{check, look, slots};
 use cmd_words::{Job, Name, Night};
 use devices::Output;
 use fade::StepFader;
+use remarks::{Failure, JobFault, of_device, of_seeming, of_weight, plain};
 use sacn_packet::SourceName;
 use sacn_source::Identity;
 use show_reader::read_show;
@@ -182,7 +181,7 @@ pub fn tell(rt: &HostRuntime, text: &[u8]) {
 fn listen_at(rt: &HostRuntime, at: ([u8; 4], u16), universe: u16, count: u32) -> Result<(), Failure>
     requires { (1 ≤ universe) × (universe ≤ 63999) }
 {
-    let mut source = ReceivingSocket::bind(rt, at)?;
+    let mut source = ReceivingSocket::bind(rt, at).map_err(of_socket_fault)?;
     tell(rt, b"listening at ");
     tell(rt, source.address().as_str().as_bytes());
     tell(rt, b"\n");
@@ -222,7 +221,7 @@ fn play_lines(rt: &HostRuntime, night: &Night) -> Result<(), JobFault>
     let text = suitable_show(rt, night)?;
     let text = text.as_slice();
     tell_seeming(rt, text);
-    let lock = CidLock::take(rt, night.cid).map_err(Failure::from)?;
+    let lock = CidLock::take(rt, night.cid).map_err(of_lock_fault)?;
     if lock.is_none() {
         tell(rt, NO_LOCK);
     }

@@ -1,7 +1,6 @@
 ghost use Rattle.std.specs.Prelude.{[]};
 
 use crate::link_watch::LinkTeller;
-use crate::remark::{Remark, push_shown};
 use crate::screen::Screen;
 use arrayvec::ArrayVec;
 use ascii_text::{Words, moment};
@@ -10,6 +9,7 @@ use devices::{Link, LinkFault};
 use live_input::Reason;
 use live_machine::{Came, NightClock, NightInput};
 use night_record::NightLines;
+use remarks::{Remark, push_shown};
 use std::time::Instant;
 use system_devices::{Keyboard, Record, SystemClock};
 

@@ -1,6 +1,5 @@
 use crate::cards::open_network;
-use crate::device_failure::of_record;
-use crate::failure::{Failure, JobFault};
+use crate::device_failure::{of_device_fault, of_lock_fault, of_record};
 use crate::jobs::{NO_LOCK, run_end};
 use crate::live_booth::LiveBooth;
 use crate::live_job::{LiveWords, Playbill};
@@ -10,6 +9,7 @@ use crate::standard::Standard;
 use crate::start_lines::StartLines;
 use live_machine::NightInput;
 use night_lines::{Place, Recording};
+use remarks::{Failure, JobFault};
 use std::cell::RefCell;
 use std::time::Instant;
 use system_devices::{CidLock, Keyboard, Network, Pause, Record, RecordFile, TypedInput};
@@ -80,8 +80,8 @@ impl LiveDevices {
         opening: Opening,
     ) -> Result<Self, JobFault> {
         let Standard { input, messages } = standard;
-        let screen = Screen::new(rt, messages).map_err(Failure::from)?;
-        let lock = CidLock::take(rt, bill.night.cid).map_err(Failure::from)?;
+        let screen = Screen::new(rt, messages).map_err(of_device_fault)?;
+        let lock = CidLock::take(rt, bill.night.cid).map_err(of_lock_fault)?;
         let network = open_network(rt, bill.night, true)?;
         Ok(LiveDevices {
             input,

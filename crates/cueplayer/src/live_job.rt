@@ -1,7 +1,6 @@
 ghost use Rattle.std.specs.Prelude.{◌≤◌};
 ghost use Rattle.cueplayer.specs.Opening.{IsPlayable};
 
-use crate::failure::{Failure, JobFault};
 use crate::follow_job::play_following;
 use crate::jobs::{identity, link_of, night_end};
 use crate::link_watch::LinkTeller;
@@ -16,6 +15,7 @@ use cmd_live::Night as LiveNight;
 use cmd_words::Night;
 use fade::{Fader, StepFader};
 use night_lines::Place;
+use remarks::{Failure, JobFault};
 use sacn_source::Identity;
 use std::fs::symlink_metadata;
 use std::io::ErrorKind;

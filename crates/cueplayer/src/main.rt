@@ -3,7 +3,6 @@
 
 mod cards;
 mod device_failure;
-mod failure;
 mod follow_job;
 mod jobs;
 mod link_watch;
@@ -16,8 +15,6 @@ mod network_lines;
 mod opening;
 mod own_record;
 mod reading;
-mod refusal;
-mod remark;
 mod screen;
 mod source_name;
 mod spare_job;
@@ -28,10 +25,8 @@ mod words;
 use clap::Error;
 use cmd_faults::{RunFault, exit_status};
 use cmd_words::{WordsFault, read_words};
-use failure::{Failure, JobFault};
 use jobs::{run, tell};
-use refusal::Refusal;
-use remark::{Remark, of_misfit, plain};
+use remarks::{Failure, JobFault, Refusal, Remark, of_misfit, plain};
 use std::env;
 use std::io::ErrorKind;
 use std::process::ExitCode;

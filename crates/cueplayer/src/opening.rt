@@ -4,9 +4,7 @@ ghost use Rattle.cmd_live.specs.Beginning.{IsReady};
 ghost use Rattle.cmd_live.specs.Stands.{StandsFor};
 ghost use Rattle.cueplayer.specs.Opening.{CanFollow, IsPlayable};
 
-use crate::failure::{Failure, JobFault};
 use crate::live_job::{LiveWords, Playbill};
-use crate::refusal::Refusal;
 use crate::source_name::source_name;
 use arrayvec::ArrayString;
 use cmd_faults::RunFault;
@@ -14,6 +12,7 @@ use cmd_live::{Night, Silent};
 use fade::Fader;
 use jiff::Timestamp;
 use night_record::{HeadLines, HeadName, RecordHead, RecordOpening, TakenUp, Unfit};
+use remarks::{Failure, JobFault, Refusal};
 use sha2::{Digest, Sha256};
 use std::fmt::Write;
 

@@ -2,12 +2,12 @@ ghost use Rattle.std.specs.Prelude.{◌≡◌, ◌≤◌, IfOk, IfErr, length};
 ghost use Rattle.cueplayer.specs.Reading.{IsUnread};
 
 use crate::cards::check_targets;
-use crate::failure::{Failure, JobFault};
 use byte_reading::{Unread, first_bytes};
 use cmd_faults::RunFault;
 use cmd_rehearse::LONGEST_SCRIPT;
 use cmd_words::Night;
 use night_record::FirstLines;
+use remarks::{Failure, JobFault};
 use show_reader::LONGEST_TEXT;
 use std::fs::File;
 use system_devices::{AppendedLines, DeviceFault};

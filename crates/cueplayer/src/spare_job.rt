@@ -2,17 +2,16 @@ ghost use Rattle.std.specs.Prelude.{OnOk};
 ghost use Rattle.cueplayer.specs.Opening.{CanFollow, IsPlayable};
 
 use crate::device_failure::of_record;
-use crate::failure::JobFault;
 use crate::live_devices::LiveDevices;
 use crate::live_job::{NightEnd, Playbill, lead};
 use crate::opening::{Opening, head_of, new_night, refusal_of};
 use crate::own_record::OwnRecord;
 use crate::reading::{HEAD_PATIENCE, record_lines};
-use crate::refusal::Refusal;
 use crate::standard::Standard;
 use cmd_live::{Night, Pause, Silent};
 use fade::{Fader, StepFader};
 use night_record::own_head;
+use remarks::{JobFault, Refusal};
 use system_devices::RecordFile;
 
 /// Takes up the record of a night while another process plays it, and goes on with that night as

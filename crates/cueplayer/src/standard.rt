@@ -1,4 +1,5 @@
-use crate::failure::Failure;
+use crate::device_failure::of_device_fault;
+use remarks::Failure;
 use std::os::fd::AsFd;
 use system_devices::{Messages, TypedInput};
 
@@ -17,8 +18,8 @@ impl Standard {
     pub fn open(rt: &HostRuntime) -> Result<Self, Failure> {
         ask_for(&rt.stdout(), "standard output")?;
         let is_told = ask_for(&rt.stderr(), "standard error").is_ok();
-        let input = TypedInput::open(rt)?;
-        let messages = Messages::new(rt, is_told)?;
+        let input = TypedInput::open(rt).map_err(of_device_fault)?;
+        let messages = Messages::new(rt, is_told).map_err(of_device_fault)?;
         Ok(Standard { input, messages })
     }
 }

@@ -1,5 +1,4 @@
 use crate::network_lines::tell_network;
-use crate::remark::{of_name, of_seeming};
 use crate::screen::Screen;
 use crate::source_name::source_name;
 use cmd_explain::{seems, weigh};
@@ -10,6 +9,7 @@ use night_lines::{
     record_line, sends_line, take_line,
 };
 use patch::has_numbers;
+use remarks::{of_name, of_seeming};
 use show::Show;
 use show_reader::read_show;
 use std::env::{self, VarError};

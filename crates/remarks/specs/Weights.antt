@@ -1,0 +1,25 @@
+-- What is told of a show that may mean something else than is played.
+use Rattle.std.specs.Prelude.{ℕ, List, [], ◌∷◌, ◌==◌, codes, decimal, if◌then◌else◌}
+use Rattle.cmd_explain.specs.declared.weight.Weight.{Weight}
+use Rattle.remarks.specs.Remarks.{remark_of}
+
+-- what stands behind the number of notes
+abbrev pub note_words : ℕ → List ℕ
+note_words notes = if notes == 1 then codes " note of weight" else codes " notes of weight"
+
+-- what stands behind the number of lines
+abbrev pub line_words : ℕ → List ℕ
+line_words lines = if lines == 1
+    then codes " line with an unknown keyword"
+    else codes " lines with an unknown keyword"
+
+-- how many notes and lines there are; of notes and lines that are none nothing is told
+abbrev pub of_weight : Weight → List ℕ
+of_weight weight =
+    let notes = decimal weight.notes in
+    let lines = decimal weight.unknown_lines in
+    let see = codes ": see cueplayer explain" in
+    if weight.notes == 0 then remark_of (lines ∷ line_words weight.unknown_lines ∷ see ∷ [])
+    else (if weight.unknown_lines == 0 then remark_of (notes ∷ note_words weight.notes ∷ see ∷ [])
+    else remark_of (notes ∷ note_words weight.notes ∷ codes ", "
+    ∷ lines ∷ line_words weight.unknown_lines ∷ see ∷ []))
