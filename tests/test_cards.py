@@ -81,7 +81,7 @@ class Ways(CardsTest):
             self.one_elsewhere,
             self.several_of_one,
             self.each_its_own,
-            self.one_of_four_cards,
+            self.three_at_one_network,
             self.plain_packet,
             self.named_packet,
         )
@@ -128,7 +128,7 @@ class Ways(CardsTest):
         office, stage = self.sent(Venue(kept), *words)
         self.assertEqual(({1}, {2}), (universes(office), universes(stage)))
 
-    def one_of_four_cards(self, kept):
+    def three_at_one_network(self, kept):
         """Of three cards at one network each is known, by its name and by its address."""
         venue = Venue(kept)
         more = {"second": Node(kept, STAGE), "third": Node(kept, STAGE)}
