@@ -20,15 +20,15 @@ const INTERRUPTS: &str = "CUEPLAYER_INTERRUPTS";
 
 /// What is told of a night at its start: a line each.
 #[derive(Clone, Copy)]
-pub struct StartLines<'a> {
-    pub night: &'a Night,
-    pub show: &'a [u8],
-    pub network: &'a Network,
-    pub recorded: Option<Recording<'a>>,
-    pub followed: Option<MainNight<'a>>,
+pub struct StartLines<'w, 's, 'n> {
+    pub night: &'w Night,
+    pub show: &'s [u8],
+    pub network: &'n Network,
+    pub recorded: Option<Recording<'w>>,
+    pub followed: Option<MainNight<'n>>,
 }
 
-impl StartLines<'_> {
+impl StartLines<'_, '_, '_> {
     /// Tells what the night plays, where it is sent, where it is recorded, whom it follows and what
     /// ends it.
     ///

@@ -1,8 +1,8 @@
-use Rattle.std.proofs.Common.{◌≡◌, ◌∙◌, ◌<◌, ◌≤◌, ◌∷◌, ◌++◌, [], ℕ, length, map, take, refl, ap}
+use Rattle.std.proofs.Common.{◌∙◌, ◌<◌, ◌≤◌, ◌∷◌, ◌++◌, [], length, map, take, refl, ap}
 use Rattle.std.proofs.Common.{sym}
 use Rattle.std.proofs.Common.{arith, get_or}
 use Rattle.std.specs.FinMap as maps
-use Rattle.std.proofs.lemmas.List.{length-map, map-append, take_all}
+use Rattle.std.proofs.lemmas.List.{get_or_default, length-map, map-append, take_all}
 use Rattle.cmd_cues.specs.Rows.{cue_row}
 use Rattle.cmd_explain.proofs.Ascending.{entry_at}
 use Rattle.cmd_cues.proofs.cue_rows.cue_rows.Goals as goal
@@ -11,13 +11,15 @@ pub loop-number-preserved : goal.loop-number-preserved
 loop-number-preserved c =
     let cues = c.args.show.now.cues in
     let es = maps.entries cues in
+    let keys = map (λ e. e.0) es in
     let i = c.loop-number.number-index in
-    let n = c.number-item.result in
-    let numbers = c.in_ok-numbers.ensures in
+    let n = get_or c.deref-number-items.result.now i 0 in
+    let numbers = c.deref-number-items.ensures.value ∙ c.in_ok-numbers.ensures in
     let within : i < length es =
     omega (arith, c.loop-number-test.true, ap length numbers, length-map es (λ e. e.0)) in
+    let listed : i < length keys = omega (arith, within, length-map es (λ e. e.0)) in
     let at = entry_at cues es i n refl within
-    (c.number-item.is ∙ ap (λ ns. get_or ns i n) numbers) in
+    (ap (λ ns. get_or ns i 0) numbers ∙ get_or_default keys i 0 n listed) in
     c.in_ok-push_cue_row.ensures at.0 at.1.found
     ∙ ap (λ rows. rows ++ cue_row (n, at.0) ∷ []) c.loop-number.invariant
     ∙ sym (ap (map cue_row) at.1.more ∙ map-append cue_row (take i es) ((n, at.0) ∷ []))
