@@ -115,20 +115,7 @@ impl LiveDevices {
     ) -> Result<Beginning<'a>, JobFault> {
         let words = bill.words;
         self.tell_missing_locks();
-        if words.main.is_none() {
-            let lines = StartLines {
-                night: bill.night,
-                show: bill.show,
-                network: &self.network,
-                recorded: self.recording(words, place),
-                followed: None,
-            };
-            run_end(lines.tell(rt, &mut self.screen), bill.show, None)?;
-        }
-        let Pause {
-            until,
-            milliseconds: passed,
-        } = self.pause(rt)?;
+        let recorded = self.recording(words, place);
         let LiveDevices {
             input,
             mut screen,
@@ -137,6 +124,20 @@ impl LiveDevices {
             lock,
             network,
         } = self;
+        if words.main.is_none() {
+            let lines = StartLines {
+                night: bill.night,
+                show: bill.show,
+                network: &network,
+                recorded,
+                followed: None,
+            };
+            run_end(lines.tell(rt, &mut screen), bill.show, None)?;
+        }
+        let Pause {
+            until,
+            milliseconds: passed,
+        } = pause_before(rt, record.as_ref(), &opening)?;
         let record = begin_record(rt, words, record, &opening, &mut screen)?;
         let input = NightInput::new(Keyboard::new(rt, input), words.ends_with_input);
         Ok(Beginning {
@@ -169,17 +170,21 @@ impl LiveDevices {
             is_cut: record.length() > self.opening.to as u64,
         })
     }
+}
 
-    // How long the record of a night that goes on had not been written; a night that begins does so
-    // now.
-    fn pause(&self, rt: &HostRuntime) -> Result<Pause, Failure> {
-        match self.record.as_ref().and_then(RecordFile::pause) {
-            Some(pause) if self.opening.goes_on() => Ok(pause),
-            _ => Ok(Pause {
-                until: now(rt)?,
-                milliseconds: 0,
-            }),
-        }
+// How long the record of a night that goes on had not been written; a night that begins does so
+// now.
+fn pause_before(
+    rt: &HostRuntime,
+    record: Option<&RecordFile>,
+    opening: &Opening,
+) -> Result<Pause, Failure> {
+    match record.and_then(RecordFile::pause) {
+        Some(pause) if opening.goes_on() => Ok(pause),
+        _ => Ok(Pause {
+            until: now(rt)?,
+            milliseconds: 0,
+        }),
     }
 }
 
