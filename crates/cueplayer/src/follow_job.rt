@@ -116,12 +116,15 @@ fn tell(
     let Ok(network) = network.try_borrow() else {
         return Ok(());
     };
-    let recorded = bill.words.record_file.map(|file| Recording {
-        file,
-        resumes: false,
-        place: None,
-        is_cut: false,
-    });
+    let recorded = match bill.words.record_file {
+        None => None,
+        Some(file) => Some(Recording {
+            file,
+            resumes: false,
+            place: None,
+            is_cut: false,
+        }),
+    };
     let lines = StartLines {
         night: bill.night,
         show: bill.show,
