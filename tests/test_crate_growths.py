@@ -60,9 +60,9 @@ TESTED = {
         ),
     ),
     "test_program::watching": Tested(("watch",), ("watch_desk",)),
-    "test_program::explain": Tested(("explain", "push_shown"), ("faults", "notes")),
+    "test_program::explain": Tested(("explain", "push_display_text"), ("faults", "notes")),
     "test_program::cues": Tested(
-        ("cues", "cues_json", "push_decimal", "push_number"), ("faults", "lists")
+        ("cues", "cues_json", "cue_numbers", "push_decimal", "push_number"), ("faults", "lists")
     ),
     "test_program::play": Tested(("play", "Console::open"), ("rows::each_growth_refused",)),
     "test_program::live": Tested(("Night::open",), ("rows::each_growth_refused",)),
