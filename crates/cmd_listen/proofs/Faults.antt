@@ -1,8 +1,5 @@
 -- The fault that a call answers is handed on.
-use Rattle.std.proofs.Common.{◌≡◌, Result}
-use Rattle.std.specs.Result.{IfErr, IsErrAnd}
-use Rattle.std.proofs.lemmas.Result.{err_from_is_err_and}
-use Rattle.cmd_listen.specs.declared.fault.WatchFault.{WatchFault}
+use Rattle.cmd_listen.proofs.Terms.{◌≡◌, Result, IfErr, IsErrAnd, err_from_is_err_and, WatchFault}
 
 -- what holds of the fault that `?` hands on holds of the answer
 pub handed_on : {T : Type 0} (r : Result T WatchFault) (Q : WatchFault → Type 0)

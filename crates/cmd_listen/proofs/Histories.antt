@@ -1,11 +1,8 @@
 -- The history of datagrams that came at moment 0.
-use Rattle.std.proofs.Common.{arith, ℕ, ◌≡◌, List, [], ◌∷◌, Option, refl}
-use Rattle.std.specs.Option.{option_map_or}
-use Rattle.sacn_packet.specs.Reading.{front_packet}
-use Rattle.sacn_receiver.specs.declared.answer.Ignored.{Ignored}
-use Rattle.sacn_receiver.specs.Source.{Entry, last_moment}
-use Rattle.sacn_receiver.specs.Taking.{accepted_entry, ignore_reason}
-use Rattle.cmd_listen.specs.Listening.{history_at_0}
+use Rattle.cmd_listen.proofs.Terms.{arith, ℕ, ◌≡◌, List, [], ◌∷◌, refl, option_map_or, front_packet}
+use Rattle.cmd_listen.proofs.Terms.{Ignored, Entry, last_moment, accepted_entry, ignore_reason}
+use Rattle.cmd_listen.proofs.Terms.{history_at_0}
+use Rattle.std.proofs.Common.{Option}
 
 moment_after : (reason : Option Ignored) (entry : Entry) (h : List Entry) → entry.moment ≡ 0
     → last_moment h ≡ 0

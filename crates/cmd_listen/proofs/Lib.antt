@@ -12,3 +12,4 @@ pub mod LivingLines
 pub mod Histories
 pub mod Listened
 mod ListenRows
+mod Terms

@@ -1,10 +1,7 @@
 -- What `listen` prints of a few datagrams, evaluated.
-use Rattle.std.specs.Prelude.{◌≡◌, List, [], ◌∷◌, ◌++◌, replicate, refl, codes, ℕ}
-use Rattle.std.specs.Fmt.{digits}
-use Rattle.sacn_packet.specs.Layers.{dmp_layer, framing_layer, root_layer}
-use Rattle.sacn_packet.specs.Name.{padded_name}
-use Rattle.sacn_packet.specs.Wire.{Fields}
-use Rattle.cmd_listen.specs.Listening.{listen_text}
+use Rattle.cmd_listen.proofs.Terms.{replicate, digits, dmp_layer, framing_layer, root_layer}
+use Rattle.cmd_listen.proofs.Terms.{padded_name, Fields, listen_text}
+use Rattle.std.specs.Prelude.{◌≡◌, List, [], ◌∷◌, ◌++◌, refl, codes, ℕ}
 
 abbrev cid : List ℕ
 cid = 192 ∷ 255 ∷ 238 ∷ 0 ∷ 0 ∷ 0 ∷ 64 ∷ 0 ∷ 128 ∷ 0 ∷ 0 ∷ 0 ∷ 0 ∷ 0 ∷ 225 ∷ 49 ∷ []

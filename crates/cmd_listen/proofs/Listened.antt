@@ -1,16 +1,12 @@
 -- A run of `listen`, as far as it has come.
-use Rattle.std.proofs.Common.{ℕ, ◌≡◌, List, [], ◌∷◌, length, reverse, Result, Ok, Err}
-use Rattle.std.proofs.Common.{IsErrAnd, ap, ◌∙◌}
-use Rattle.std.proofs.lemmas.Grind.{reverse_onto}
-use Rattle.devices.specs.Tape.{Tape, with_more, with_failure}
-use Rattle.devices.proofs.Tapes.{with_more-twice}
-use Rattle.sacn_receiver.specs.Kept.{ReceiverState, StandsFor}
-use Rattle.sacn_receiver.specs.Shown.{shown_slots}
-use Rattle.cmd_faults.specs.declared.fault.RunFault.{RunFault}
+use Rattle.cmd_listen.proofs.Terms.{ℕ, ◌≡◌, List, [], ◌∷◌, length, reverse, Result, ap, ◌∙◌}
+use Rattle.cmd_listen.proofs.Terms.{reverse_onto, Tape, with_more, with_failure, with_more-twice}
+use Rattle.cmd_listen.proofs.Terms.{ReceiverState, StandsFor, shown_slots, RunFault, slots_line}
+use Rattle.cmd_listen.proofs.Terms.{GaveAll, Listens, DeviceFailed, SlotsFailed, history_at_0}
+use Rattle.cmd_listen.proofs.Terms.{listen_text, replies, reply_line}
+use Rattle.std.proofs.Common.{Ok, Err}
+use Rattle.std.proofs.Common.{IsErrAnd}
 use Rattle.cmd_faults.specs.declared.fault.RunFault.TheVariants as run
-use Rattle.sacn_receiver.specs.Replies.{slots_line}
-use Rattle.cmd_listen.specs.Listening.{GaveAll, Listens, DeviceFailed, SlotsFailed}
-use Rattle.cmd_listen.specs.Listening.{history_at_0, listen_text, replies, reply_line}
 
 -- so many datagrams came, and the receiver stands for them; where the devices tell, the source gave
 -- them, and the output took the replies to them

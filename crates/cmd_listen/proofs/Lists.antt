@@ -1,10 +1,8 @@
 -- What lists lack in std.
-use Rattle.std.proofs.Common.{◌≡◌, ℕ, zero, suc, ◌+◌, ◌<◌, ◌≤◌, min, refl, ap, sym, ◌∙◌}
-use Rattle.std.proofs.Common.{inl, inr, arith}
-use Rattle.std.proofs.Common.{List, [], ◌∷◌, ◌++◌, map, length, take, drop, get_or, set, add-one}
-use Rattle.std.proofs.lemmas.Bool.{cases_lt}
-use Rattle.std.proofs.lemmas.List.{take_all, take_more, length-drop, map-append}
-use Rattle.std.specs.List.{AllZip}
+use Rattle.cmd_listen.proofs.Terms.{◌≡◌, ℕ, zero, suc, ◌+◌, ◌<◌, ◌≤◌, min, refl, ap, sym, ◌∙◌, inl}
+use Rattle.cmd_listen.proofs.Terms.{inr, arith, List, [], ◌∷◌, ◌++◌, map, length, take, drop}
+use Rattle.cmd_listen.proofs.Terms.{get_or, set, add-one, cases_lt, take_all, take_more}
+use Rattle.cmd_listen.proofs.Terms.{length-drop, map-append, AllZip}
 
 pub take_min : (n : ℕ) (xs : List ℕ) → take (min (length xs) n) xs ≡ take n xs
 take_min n xs = elim (cases_lt n (length xs)) [

@@ -1,31 +1,17 @@
 -- The sources of a universe are the live records of the source rule.
-use Rattle.std.proofs.Common.{◌≡◌, ◌≤◌, ◌<◌, ◌-◌, ℕ, Bool, true, false, not, cond, List, [], ◌∷◌}
-use Rattle.std.proofs.Common.{map, length, take, refl, ap, sym, ◌∙◌, arith}
-use Rattle.std.specs.Prelude.{bytes_eq, filter, find, nat_eq, nat_lt, Option, Some, None}
-use Rattle.std.specs.Option.{option_map, option_or}
-use Rattle.std.proofs.lemmas.Bool.Decides.{nat_tests}
-use Rattle.std.proofs.lemmas.List.{take_all, length-map}
-use Rattle.std.proofs.lemmas.List.Filters.{length-filter_both}
-use Rattle.sacn_packet.specs.Faults.{fault_of}
-use Rattle.sacn_packet.specs.Reading.{front_packet}
-use Rattle.sacn_packet.specs.Wire.{WirePacket}
-use Rattle.sacn_receiver.specs.declared.answer.Ignored.{Ignored}
-use Rattle.sacn_receiver.specs.declared.answer.Ignored.TheVariants.{Backwards, Unreadable}
-use Rattle.sacn_receiver.specs.Shown.{live}
-use Rattle.sacn_receiver.specs.Source.{Entry, is_accepted, is_taken, is_there, last_moment, newest}
-use Rattle.sacn_receiver.specs.Source.{record_of, records, same_cid}
-use Rattle.sacn_receiver.specs.Taking.{accepted_entry, ignore_reason, is_termination, source_reason}
-use Rattle.sacn_receiver.specs.Taking.{source_refusal}
-use Rattle.sacn_receiver.specs.Taking.{unheard}
-use Rattle.sacn_receiver.proofs.Apart.{find_records}
-use Rattle.sacn_receiver.proofs.Members.{found_in, In_filter, In_length}
-use Rattle.cmd_listen.specs.declared.instant.Instant.{Instant}
-use Rattle.cmd_listen.specs.declared.source.Source.{Source}
-use Rattle.cmd_listen.specs.Laws.{Mark, mark_in, mark_of}
-use Rattle.cmd_listen.specs.Sources.{source_of, with_source, without_cid}
-use Rattle.cmd_listen.specs.Universe.{Knowledge, known_after, after_look, looked_after}
-use Rattle.cmd_listen.specs.Universe.{after_datagram}
-use Rattle.cmd_listen.specs.Universe.{met_after, new_known, sources_with, after_wait}
+use Rattle.cmd_listen.proofs.Terms.{◌≡◌, ◌≤◌, ◌<◌, ◌-◌, ℕ, Bool, true, false, not, cond, List, []}
+use Rattle.cmd_listen.proofs.Terms.{◌∷◌, map, length, take, refl, ap, sym, ◌∙◌, arith, bytes_eq}
+use Rattle.cmd_listen.proofs.Terms.{filter, find, nat_eq, nat_lt, Option, Some, None, option_map}
+use Rattle.cmd_listen.proofs.Terms.{option_or, nat_tests, take_all, length-map, length-filter_both}
+use Rattle.cmd_listen.proofs.Terms.{fault_of, front_packet, WirePacket, Ignored, Backwards}
+use Rattle.cmd_listen.proofs.Terms.{Unreadable, live, Entry, is_accepted, is_taken, is_there}
+use Rattle.cmd_listen.proofs.Terms.{last_moment, newest, record_of, records, same_cid}
+use Rattle.cmd_listen.proofs.Terms.{accepted_entry, ignore_reason, is_termination, source_reason}
+use Rattle.cmd_listen.proofs.Terms.{source_refusal, unheard, find_records, found_in, In_filter}
+use Rattle.cmd_listen.proofs.Terms.{In_length, Instant, Source, Mark, mark_in, mark_of, source_of}
+use Rattle.cmd_listen.proofs.Terms.{with_source, without_cid, Knowledge, known_after, after_look}
+use Rattle.cmd_listen.proofs.Terms.{looked_after, after_datagram, met_after, new_known}
+use Rattle.cmd_listen.proofs.Terms.{sources_with, after_wait}
 
 -- ---- filters
 

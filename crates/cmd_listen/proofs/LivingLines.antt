@@ -1,15 +1,9 @@
 -- The sources of each universe are its live records, line by line.
-use Rattle.std.proofs.Common.{◌≡◌, ◌≤◌, ℕ, Bool, true, false, List, [], ◌∷◌, refl, arith}
-use Rattle.std.specs.Prelude.{All, nat_lt}
-use Rattle.std.proofs.lemmas.Bool.Decides.{nat_tests}
-use Rattle.std.proofs.lemmas.List.Elements.{All-map, All-weaker}
-use Rattle.cmd_listen.specs.declared.instant.Instant.{Instant}
-use Rattle.cmd_listen.specs.Laws.{SourcesAreLive}
-use Rattle.cmd_listen.specs.Reading.{WatchLine, at, blank, malformed, spelled_in}
-use Rattle.cmd_listen.specs.Universe.{known_after, new_known}
-use Rattle.cmd_listen.specs.Watching.{WatchState, after_spelled, after_arrival, instant}
-use Rattle.cmd_listen.specs.Watching.{after_instant}
-use Rattle.cmd_listen.specs.Watching.{watch_after}
+use Rattle.cmd_listen.proofs.Terms.{◌≡◌, ◌≤◌, ℕ, Bool, true, false, List, [], ◌∷◌, refl, arith, All}
+use Rattle.cmd_listen.proofs.Terms.{nat_lt, nat_tests, All-map, All-weaker, Instant, SourcesAreLive}
+use Rattle.cmd_listen.proofs.Terms.{WatchLine, at, blank, malformed, spelled_in, known_after}
+use Rattle.cmd_listen.proofs.Terms.{new_known, WatchState, after_spelled, after_arrival, instant}
+use Rattle.cmd_listen.proofs.Terms.{after_instant, watch_after}
 use Rattle.cmd_listen.proofs.Living.{Fits, known_fits, new_fits}
 
 abbrev AllFit : WatchState → Type 0

@@ -1,19 +1,12 @@
 -- What watched universes stand for, line by line.
-use Rattle.std.proofs.Common.{◌≡◌, ◌≤◌, ◌<◌, ℕ, true, false, not, List, [], ◌∷◌, ◌++◌}
-use Rattle.std.proofs.Common.{map, flat_map}
-use Rattle.std.proofs.Common.{refl, ap, sym, ◌∙◌, append-nil, append_assoc, arith, length}
-use Rattle.std.specs.Prelude.{◌==◌, ◌&&◌, ◌||◌, if◌then◌else◌, nat_lt}
-use Rattle.std.specs.List.{AllZip, list_any}
-use Rattle.std.proofs.lemmas.Bool.Decides.{nat_tests}
-use Rattle.cmd_listen.specs.declared.instant.Instant.{Instant}
-use Rattle.cmd_listen.specs.declared.monitor.Monitor.{Monitor}
-use Rattle.cmd_listen.specs.declared.watching.Watching.{Watching}
-use Rattle.cmd_listen.specs.Ignored.{with_one_more, stray_place}
-use Rattle.cmd_listen.specs.Stands.{MonitorsStand, MonitorStands}
-use Rattle.cmd_listen.specs.Universe.{Knowledge, counts_after, known_after, told_counts, told_text}
-use Rattle.cmd_listen.specs.Watching.{WatchState, after_arrival, arrived_text, instant}
-use Rattle.cmd_listen.specs.Watching.{last_instant}
-use Rattle.cmd_listen.specs.Watching.{last_text, after_instant, passed_text}
+use Rattle.cmd_listen.proofs.Terms.{◌≡◌, ◌≤◌, ◌<◌, ℕ, true, false, not, List, [], ◌∷◌, ◌++◌, map}
+use Rattle.cmd_listen.proofs.Terms.{flat_map, refl, ap, sym, ◌∙◌, append-nil, append_assoc, arith}
+use Rattle.cmd_listen.proofs.Terms.{length, ◌==◌, ◌&&◌, ◌||◌, if◌then◌else◌, nat_lt, AllZip}
+use Rattle.cmd_listen.proofs.Terms.{list_any, nat_tests, Instant, Monitor, Watching, with_one_more}
+use Rattle.cmd_listen.proofs.Terms.{stray_place, MonitorsStand, MonitorStands, Knowledge}
+use Rattle.cmd_listen.proofs.Terms.{counts_after, known_after, told_counts, told_text, WatchState}
+use Rattle.cmd_listen.proofs.Terms.{after_arrival, arrived_text, instant, last_instant, last_text}
+use Rattle.cmd_listen.proofs.Terms.{after_instant, passed_text}
 
 -- a universe is watched where a monitor watches it
 any_same : (t to : ℕ) (ms : List Monitor) (ks : List Knowledge) → AllZip (MonitorStands t) ms ks

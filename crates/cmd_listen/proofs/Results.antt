@@ -1,11 +1,8 @@
 -- What calls gave.
-use Rattle.std.proofs.Common.{◌≡◌, ◌∙◌, ap, sym, refl, ℕ, List, ◌++◌}
-use Rattle.std.specs.Option.{option_map_or}
-use Rattle.std.specs.Prelude.{None, Result, Ok, Err, OnErr, OnOk, IfOk, IsOk, is_ok, if◌then◌else◌}
-use Rattle.sacn_packet.specs.Faults.{fault_of}
-use Rattle.sacn_packet.specs.Reading.{front_packet}
-use Rattle.sacn_packet.specs.Wire.{WirePacket}
-use Rattle.cmd_listen.specs.Watching.{universe_in}
+use Rattle.cmd_listen.proofs.Terms.{◌≡◌, ◌∙◌, ap, sym, refl, ℕ, List, ◌++◌, option_map_or, None, Ok}
+use Rattle.cmd_listen.proofs.Terms.{Err, OnErr, OnOk, IfOk, IsOk, is_ok, if◌then◌else◌, fault_of}
+use Rattle.cmd_listen.proofs.Terms.{front_packet, WirePacket, universe_in}
+use Rattle.std.specs.Prelude.{Result}
 
 pub is_ok_of : {X E P : Type 0} (r : Result X E) → (P → ⊥) → OnErr r P → IsOk r
 is_ok_of (Ok x) never fails = refl

@@ -1,28 +1,15 @@
 -- What a monitor stands for, step by step.
-use Rattle.std.proofs.Common.{◌≡◌, ℕ, ◌≤◌, Bool, true, false, not, List, ◌∷◌, ◌++◌, max, refl, ap}
-use Rattle.std.proofs.Common.{sym, ◌∙◌, append-nil, append_assoc, arith, codes}
-use Rattle.std.specs.Prelude.{bytes_eq, Option, Some, None, Ok, Err}
-use Rattle.std.specs.Option.{option_map_or}
-use Rattle.std.proofs.lemmas.Bool.{not-true}
-use Rattle.std.proofs.lemmas.Slice.Eq.{bytes_eq-Decides}
-use Rattle.sacn_packet.specs.Reading.{front_packet}
-use Rattle.sacn_receiver.specs.declared.answer.Ignored.{Ignored}
-use Rattle.sacn_receiver.specs.declared.answer.Taken.{Taken}
-use Rattle.sacn_receiver.specs.Kept.{ReceiverState, StandsFor}
-use Rattle.sacn_receiver.specs.Shown.{shown_slots}
-use Rattle.sacn_receiver.specs.Source.{Entry, last_moment}
-use Rattle.sacn_receiver.specs.Taking.{answer, accepted_entry, history_after, ignore_reason}
-use Rattle.sacn_receiver.specs.Replies.{slots_line}
-use Rattle.cmd_listen.specs.declared.monitor.Monitor.{Monitor}
-use Rattle.cmd_listen.specs.Ignored.{with_one_more, ignored_place}
-use Rattle.cmd_listen.specs.declared.instant.Instant.{Instant}
-use Rattle.cmd_listen.specs.Sources.{changes, line_head, here}
-use Rattle.cmd_listen.specs.Stands.{MonitorStands}
-use Rattle.cmd_listen.specs.Universe.{Knowledge, universe_answer, counts_by, head, after_look}
-use Rattle.cmd_listen.specs.Universe.{looked_text, after_datagram}
-use Rattle.cmd_listen.specs.Universe.{met_text, sources_by, sources_with, text_by}
-use Rattle.cmd_listen.specs.Universe.{counts_after, looked_after, told_counts, told_looked}
-use Rattle.cmd_listen.specs.Universe.{after_wait, waited_text}
+use Rattle.cmd_listen.proofs.Terms.{◌≡◌, ℕ, ◌≤◌, Bool, true, false, not, List, ◌∷◌, ◌++◌, max, refl}
+use Rattle.cmd_listen.proofs.Terms.{ap, sym, ◌∙◌, append-nil, append_assoc, arith, codes, bytes_eq}
+use Rattle.cmd_listen.proofs.Terms.{Option, Some, None, Ok, Err, option_map_or, not-true}
+use Rattle.cmd_listen.proofs.Terms.{bytes_eq-Decides, front_packet, Ignored, Taken, ReceiverState}
+use Rattle.cmd_listen.proofs.Terms.{StandsFor, shown_slots, Entry, last_moment, answer}
+use Rattle.cmd_listen.proofs.Terms.{accepted_entry, history_after, ignore_reason, slots_line}
+use Rattle.cmd_listen.proofs.Terms.{Monitor, with_one_more, ignored_place, Instant, changes}
+use Rattle.cmd_listen.proofs.Terms.{line_head, here, MonitorStands, Knowledge, universe_answer}
+use Rattle.cmd_listen.proofs.Terms.{counts_by, head, after_look, looked_text, after_datagram}
+use Rattle.cmd_listen.proofs.Terms.{met_text, sources_by, sources_with, text_by, counts_after}
+use Rattle.cmd_listen.proofs.Terms.{looked_after, told_counts, told_looked, after_wait, waited_text}
 
 -- ---- equal bytes
 

@@ -1,23 +1,12 @@
 -- A stage that takes bytes.
-use Rattle.std.proofs.Common.{◌≡◌, ◌≢◌, ◌<◌, ◌≤◌, ◌+◌, ℕ, List, [], ◌∷◌, ◌++◌, refl, ap, ◌∙◌, arith}
-use Rattle.std.proofs.Common.{true, append_assoc, length, length-append}
-use Rattle.std.specs.Prelude.{◌==◌}
-use Rattle.std.proofs.lemmas.List.Elements.{All-cons}
-use Rattle.std.proofs.lemmas.List.Sums.{fold-append}
-use Rattle.devices.specs.Tape.{Tape, with_more}
-use Rattle.devices.proofs.Tapes.{with_more-twice}
-use Rattle.cmd_listen.specs.declared.fault.WatchFault.{WatchFault}
-use Rattle.cmd_listen.specs.declared.fault.WatchFault.TheVariants.{Device, Line, Memory}
-use Rattle.cmd_listen.specs.declared.stage.Stage.{Stage}
-use Rattle.ascii_text.specs.Lines.{Cut, with_byte}
-use Rattle.cmd_listen.specs.Lines.{AreWatchLines}
-use Rattle.cmd_listen.specs.Reading.{malformed, spelled_in}
-use Rattle.cmd_listen.specs.Runs.{EndsWatch, WatchLeaves, malformed_line}
-use Rattle.cmd_listen.specs.Stage.{EndsWatchAt, WatchHasEnded, WatchHasTaken, LeftBy}
-use Rattle.cmd_listen.specs.Stage.{StageStandsFor, TellsLines}
-use Rattle.cmd_listen.specs.Stage.{last_lf}
-use Rattle.cmd_listen.specs.Stands.{MonitorsStand}
-use Rattle.cmd_listen.specs.Watching.{after_spelled, text_spelled, told_at, watch_after}
+use Rattle.cmd_listen.proofs.Terms.{◌≡◌, ◌≢◌, ◌<◌, ◌≤◌, ◌+◌, ℕ, List, [], ◌∷◌, ◌++◌, refl, ap, ◌∙◌}
+use Rattle.cmd_listen.proofs.Terms.{arith, true, append_assoc, length, length-append, ◌==◌}
+use Rattle.cmd_listen.proofs.Terms.{All-cons, fold-append, Tape, with_more, with_more-twice}
+use Rattle.cmd_listen.proofs.Terms.{WatchFault, Device, Line, Memory, Stage, Cut, with_byte}
+use Rattle.cmd_listen.proofs.Terms.{AreWatchLines, malformed, spelled_in, EndsWatch, WatchLeaves}
+use Rattle.cmd_listen.proofs.Terms.{malformed_line, EndsWatchAt, WatchHasEnded, WatchHasTaken}
+use Rattle.cmd_listen.proofs.Terms.{LeftBy, StageStandsFor, TellsLines, last_lf, MonitorsStand}
+use Rattle.cmd_listen.proofs.Terms.{after_spelled, text_spelled, told_at, watch_after}
 
 -- no bytes
 pub taken_none : {a : Stage} {t : Type 0} {e : Tape ℕ} → WatchHasTaken [] a a t e e

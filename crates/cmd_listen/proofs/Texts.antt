@@ -1,9 +1,8 @@
 -- Texts that are made line by line.
-use Rattle.std.proofs.Common.{◌≡◌, ℕ, ◌+◌, ◌<◌, ◌≤◌, List, ◌++◌, length, take, get_or, flat_map}
-use Rattle.std.proofs.Common.{ap, sym, ◌∙◌, zero-add, append_assoc}
-use Rattle.std.proofs.lemmas.List.{flat_map_more, take_all, take_more}
-use Rattle.std.proofs.lemmas.List.FromFn.{get_or-enumerate_from, length-enumerate_from}
-use Rattle.std.specs.List.{enumerate_from}
+use Rattle.cmd_listen.proofs.Terms.{◌≡◌, ℕ, ◌+◌, ◌<◌, ◌≤◌, List, ◌++◌, length, take, get_or}
+use Rattle.cmd_listen.proofs.Terms.{flat_map, ap, sym, ◌∙◌, zero-add, append_assoc, flat_map_more}
+use Rattle.cmd_listen.proofs.Terms.{take_all, take_more, get_or-enumerate_from}
+use Rattle.cmd_listen.proofs.Terms.{length-enumerate_from, enumerate_from}
 
 -- the texts of one element more
 pub told_more : {A : Type 0} (f : A → List ℕ) (text front : List ℕ) (xs : List A) (i : ℕ) (d : A)

@@ -1,10 +1,6 @@
 -- The greatest priority, one source on.
-use Rattle.std.proofs.Common.{◌≡◌, ℕ, ◌+◌, ◌<◌, max, refl, ap, ◌∙◌, List, [], map, length}
-use Rattle.std.proofs.Common.{take, get_or}
-use Rattle.std.proofs.lemmas.List.{take_more}
-use Rattle.std.proofs.lemmas.List.Recursion.{max_push}
-use Rattle.sacn_receiver.specs.Shown.{greatest}
-use Rattle.cmd_listen.specs.declared.source.Source.{Source}
+use Rattle.cmd_listen.proofs.Terms.{◌≡◌, ℕ, ◌+◌, ◌<◌, max, refl, ap, ◌∙◌, List, [], map, length}
+use Rattle.cmd_listen.proofs.Terms.{take, get_or, take_more, max_push, greatest, Source}
 
 -- what is read where there is none
 abbrev pub no_source : Source

@@ -1,21 +1,13 @@
 -- A watch over the bytes of an input.
-use Rattle.std.proofs.Common.{◌≡◌, ◌≢◌, ℕ, Bool, true, false, cond, ap, sym, refl, ◌∙◌}
-use Rattle.std.proofs.Common.{List, [], ◌∷◌}
-use Rattle.std.proofs.Common.{◌++◌}
-use Rattle.std.proofs.Common.{length, take, ◌⊎◌, inl, inr, append-nil}
-use Rattle.std.specs.Prelude.{◌==◌, IfErr, OnOk, Result, Ok, Err}
-use Rattle.devices.specs.Tape.{Tape, with_more}
-use Rattle.devices.proofs.Tapes.{with_more-none, with_more-twice}
-use Rattle.cmd_listen.specs.declared.fault.WatchFault.{WatchFault}
+use Rattle.cmd_listen.proofs.Terms.{◌≡◌, ◌≢◌, ℕ, Bool, true, false, cond, ap, sym, refl, ◌∙◌, List}
+use Rattle.cmd_listen.proofs.Terms.{[], ◌∷◌, ◌++◌, length, take, ◌⊎◌, inl, inr, append-nil, ◌==◌}
+use Rattle.cmd_listen.proofs.Terms.{OnOk, Ok, Err, Tape, with_more, with_more-none, with_more-twice}
+use Rattle.cmd_listen.proofs.Terms.{WatchFault, Stage, with_last_lf, cut_of, no_bytes}
+use Rattle.cmd_listen.proofs.Terms.{WatchEndsEarly, WatchesAll, WatchHasEnded, WatchHasTaken}
+use Rattle.cmd_listen.proofs.Terms.{LastTold, LeftBy, StageStandsFor, TellsLines, last_lf}
+use Rattle.cmd_listen.proofs.Terms.{MonitorsStand, last_text, told_at, watch_after, WatchState}
+use Rattle.std.specs.Prelude.{IfErr, Result}
 use Rattle.cmd_listen.specs.declared.fault.WatchFault.TheVariants as early
-use Rattle.cmd_listen.specs.declared.stage.Stage.{Stage}
-use Rattle.ascii_text.specs.Lines.{with_last_lf, cut_of, no_bytes}
-use Rattle.cmd_listen.specs.Runs.{WatchEndsEarly, WatchesAll}
-use Rattle.cmd_listen.specs.Stage.{WatchHasEnded, WatchHasTaken, LastTold, LeftBy, StageStandsFor}
-use Rattle.cmd_listen.specs.Stage.{TellsLines}
-use Rattle.cmd_listen.specs.Stage.{last_lf}
-use Rattle.cmd_listen.specs.Stands.{MonitorsStand}
-use Rattle.cmd_listen.specs.Watching.{last_text, told_at, watch_after, WatchState}
 use Rattle.cmd_listen.proofs.Taking.{ended_behind, left_by, taken_more}
 
 -- what was read, and then more

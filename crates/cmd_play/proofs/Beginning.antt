@@ -1,16 +1,7 @@
 -- A play begins, or not.
-use Rattle.std.proofs.Common.{◌≡◌, ◌↔◌, ℕ, List, refl, Bool, true, false, Result, Ok, Err, None}
-use Rattle.std.specs.Prelude.{IsTrue, IsFalse}
-use Rattle.patch.specs.Frame.{is_base}
-use Rattle.patch.specs.declared.fault.RigFault.{RigFault}
-use Rattle.patch.specs.declared.fault.RigFault.TheVariants.{Universe}
-use Rattle.show.specs.Tables.{Tables}
-use Rattle.show_line.specs.Said.{desk_limits}
-use Rattle.show_reader.specs.Reading.{text_fault}
-use Rattle.show_reader.specs.Shows.{IsShowOf}
-use Rattle.show_reader.specs.Text.{statements_of}
-use Rattle.show_reader.specs.ItsShow.{OfItsShow}
-use Rattle.show_reader.proofs.OneShow.{of_its_show}
+use Rattle.cmd_play.proofs.Terms.{◌≡◌, ◌↔◌, ℕ, List, refl, Bool, true, false, Result, Ok, Err, None}
+use Rattle.cmd_play.proofs.Terms.{IsTrue, IsFalse, is_base, RigFault, Universe, Tables, desk_limits}
+use Rattle.cmd_play.proofs.Terms.{text_fault, IsShowOf, statements_of, OfItsShow, of_its_show}
 
 -- a console that was opened has numbers for its universes
 pub is_based : {X : Type 0} (b : Bool) (r : Result X RigFault) (x : X) → r ≡ Ok x

@@ -1,29 +1,13 @@
 -- A call that is carried out.
-use Rattle.std.proofs.Common.{◌≡◌, ℕ, Bool, true, false, cond, refl, ap, arith, sym, ◌∙◌, List, []}
-use Rattle.std.proofs.Common.{Some, None, Ok, Err, Result, append-nil}
-use Rattle.std.specs.Prelude.{Option, count_by}
-use Rattle.std.proofs.lemmas.List.Sums.{sum_by-cons}
-use Rattle.devices.specs.Send.{Send, failures_of}
-use Rattle.desk.specs.declared.answer.Refused.{Refused}
-use Rattle.desk.specs.declared.answer.Ticked.{Ticked}
-use Rattle.desk.specs.Played.{Act, ticks_since_end, outcome, refusal, tick_answer}
-use Rattle.sacn_source.specs.Identity.{Identity}
-use Rattle.sacn_source.specs.declared.offered.Offered.{Offered}
-use Rattle.sacn_source.specs.declared.offered.Offered.TheVariants.{Quiet}
-use Rattle.sacn_source.specs.Offering.{answer_of}
-use Rattle.console.specs.Offering.{AreOffered, none, quiet, sent, OffersDues}
-use Rattle.console.specs.Streams.{Due, Production, dues_at, tick_at}
-use Rattle.console.specs.declared.call.Call.{Call}
-use Rattle.console.specs.declared.call.Call.TheVariants.{Order, Tick}
-use Rattle.console.specs.Spelling.{act_of}
-use Rattle.console.specs.declared.reading.Reading.{Reading}
-use Rattle.console.specs.declared.reading.Reading.TheVariants.{At}
-use Rattle.console.specs.Texts.{moment_line}
-use Rattle.cmd_play.specs.Lost.{is_lost}
-use Rattle.cmd_play.specs.Run.{IsAnswered, answer_text, dues_after, dues_by, line_text}
-use Rattle.cmd_play.specs.declared.performance.Answer.{Answer}
+use Rattle.cmd_play.proofs.Terms.{◌≡◌, ℕ, Bool, true, false, cond, refl, ap, arith, sym, ◌∙◌, List}
+use Rattle.cmd_play.proofs.Terms.{[], Some, None, Ok, Err, Result, append-nil, Option, count_by}
+use Rattle.cmd_play.proofs.Terms.{sum_by-cons, Send, failures_of, Refused, Ticked, Act}
+use Rattle.cmd_play.proofs.Terms.{ticks_since_end, outcome, refusal, tick_answer, Identity, Offered}
+use Rattle.cmd_play.proofs.Terms.{Quiet, answer_of, AreOffered, none, quiet, sent, OffersDues, Due}
+use Rattle.cmd_play.proofs.Terms.{Production, dues_at, tick_at, Call, Order, Tick, act_of, Reading}
+use Rattle.cmd_play.proofs.Terms.{At, moment_line, is_lost, IsAnswered, answer_text, dues_after}
+use Rattle.cmd_play.proofs.Terms.{dues_by, line_text, Answer, Performs, call_answer, text_of_answer}
 use Rattle.cmd_play.specs.declared.performance.Answer.TheVariants as answer
-use Rattle.cmd_play.specs.Perform.{Performs, call_answer, text_of_answer}
 use Rattle.cmd_play.specs.Perform.{lost_of as lost_of_answer}
 
 -- why a call was refused, or that it was not, by its answer

@@ -1,8 +1,5 @@
 -- The fault that a call answers is handed on.
-use Rattle.std.proofs.Common.{◌≡◌, Result}
-use Rattle.std.specs.Result.{IfErr, IsErrAnd}
-use Rattle.std.proofs.lemmas.Result.{err_from_is_err_and}
-use Rattle.cmd_play.specs.declared.fault.PlayFault.{PlayFault}
+use Rattle.cmd_play.proofs.Terms.{◌≡◌, Result, IfErr, IsErrAnd, err_from_is_err_and, PlayFault}
 
 -- what holds of the fault that `?` hands on holds of the answer
 pub handed_on : {T : Type 0} (r : Result T PlayFault) (Q : PlayFault → Type 0) {fault : PlayFault}

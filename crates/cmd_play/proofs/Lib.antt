@@ -5,3 +5,4 @@ pub mod Taking
 pub mod Playing
 pub mod Beginning
 pub mod Moved
+mod Terms

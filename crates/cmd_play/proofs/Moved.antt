@@ -1,23 +1,14 @@
 -- The cue to which an accepted call moves.
-use Rattle.std.proofs.Common.{◌≡◌, ℕ, Bool, true, false, refl, ap, sym, List, ◌∷◌}
-use Rattle.std.proofs.Common.{Option, Some, None, arith, subst}
-use Rattle.std.specs.Prelude.{is_none, is_some, if◌then◌else◌}
-use Rattle.std.specs.Option.{option_or}
-use Rattle.show.specs.Tables.{Tables}
-use Rattle.playback.specs.Played.{Move, current_after, moves_by}
-use Rattle.desk.specs.declared.command.Command.{Command}
-use Rattle.desk.specs.declared.command.Command.TheVariants.{Go, Back, Goto, GotoIn, Sub}
-use Rattle.desk.specs.declared.command.Command.TheVariants.{Group, Master, End}
-use Rattle.desk.specs.declared.answer.Refused.{Refused}
-use Rattle.desk.specs.declared.answer.Refused.TheVariants.{AtEnd, AtStart, NoCue}
+use Rattle.cmd_play.proofs.Terms.{◌≡◌, ℕ, Bool, true, false, refl, ap, sym, List, ◌∷◌, Some, None}
+use Rattle.cmd_play.proofs.Terms.{arith, subst, is_none, is_some, if◌then◌else◌, option_or, Tables}
+use Rattle.cmd_play.proofs.Terms.{Move, current_after, moves_by, Command, Go, Back, Goto, GotoIn}
+use Rattle.cmd_play.proofs.Terms.{Sub, Group, Master, End, Refused, AtEnd, AtStart, NoCue, Act}
+use Rattle.cmd_play.proofs.Terms.{ticks_since_end, is_after_end, is_soon, lack_refusal}
+use Rattle.cmd_play.proofs.Terms.{command_lacks, last_act_moment, last_tick, moved_to, moves}
+use Rattle.cmd_play.proofs.Terms.{own_time, refusal, target, time_refusal, Call, Order, Tick}
+use Rattle.cmd_play.proofs.Terms.{act_of, own_move}
+use Rattle.std.proofs.Common.{Option}
 use Rattle.desk.specs.Played as played
-use Rattle.desk.specs.Played.{Act, ticks_since_end, is_after_end, is_soon, lack_refusal}
-use Rattle.desk.specs.Played.{command_lacks, last_act_moment}
-use Rattle.desk.specs.Played.{last_tick, moved_to, moves, own_time, refusal, target, time_refusal}
-use Rattle.console.specs.declared.call.Call.{Call}
-use Rattle.console.specs.declared.call.Call.TheVariants.{Order, Tick}
-use Rattle.console.specs.Spelling.{act_of}
-use Rattle.cmd_play.specs.Perform.{own_move}
 
 both_none : (a b : Option Refused) → option_or a b ≡ None → (a ≡ None) × (b ≡ None)
 both_none None b e = (refl, e)

@@ -1,18 +1,9 @@
 -- A play over the bytes of an input.
-use Rattle.std.proofs.Common.{◌≡◌, ℕ, Bool, cond, ap, sym, ◌∙◌, List, [], ◌∷◌, ◌++◌, length}
-use Rattle.std.proofs.Common.{take, ◌⊎◌, inr, append-nil}
-use Rattle.std.specs.Prelude.{◌==◌}
-use Rattle.fade.specs.declared.fader.Fader.{Ghosts}
-use Rattle.fade.specs.Level.{Start}
-use Rattle.devices.specs.Tape.{Tape, with_more}
-use Rattle.devices.proofs.Tapes.{with_more-none, with_more-twice}
-use Rattle.console.specs.Streams.{Production}
-use Rattle.cmd_play.specs.declared.fault.PlayFault.{PlayFault}
-use Rattle.cmd_play.specs.declared.stage.Stage.{Stage}
-use Rattle.ascii_text.specs.Lines.{with_last_lf, cut_of, no_bytes}
-use Rattle.cmd_play.specs.Play.{PlayEndsEarly, PlaysAll}
-use Rattle.cmd_play.specs.Run.{Emission, Ran}
-use Rattle.cmd_play.specs.Stage.{PlayHasEnded, PlayHasTaken, StandsFor}
+use Rattle.cmd_play.proofs.Terms.{◌≡◌, ℕ, Bool, cond, ap, sym, ◌∙◌, List, [], ◌∷◌, ◌++◌, length}
+use Rattle.cmd_play.proofs.Terms.{take, ◌⊎◌, inr, append-nil, ◌==◌, Ghosts, Start, Tape, with_more}
+use Rattle.cmd_play.proofs.Terms.{with_more-none, with_more-twice, Production, PlayFault, Stage}
+use Rattle.cmd_play.proofs.Terms.{with_last_lf, cut_of, no_bytes, PlayEndsEarly, PlaysAll, Emission}
+use Rattle.cmd_play.proofs.Terms.{Ran, PlayHasEnded, PlayHasTaken, StandsFor}
 use Rattle.cmd_play.proofs.Running.{ran_none}
 use Rattle.cmd_play.proofs.Taking.{ended_behind}
 

@@ -1,22 +1,11 @@
 -- One line more of a run.
-use Rattle.std.proofs.Common.{◌≡◌, ℕ, ◌+◌, refl, ap, arith, sym, subst, ◌∙◌, List, [], ◌∷◌}
-use Rattle.std.proofs.Common.{◌++◌, append_assoc, append-nil}
-use Rattle.std.proofs.Common.{cond}
-use Rattle.std.proofs.lemmas.List.Elements.{All-nil}
-use Rattle.std.proofs.lemmas.List.Sums.{sum_by-append}
-use Rattle.devices.specs.Send.{Send}
-use Rattle.devices.specs.Tape.{Tape, with_more}
-use Rattle.devices.proofs.Tapes.{with_more-none, with_more-twice}
-use Rattle.console.specs.Offering.{AreOffered}
-use Rattle.console.specs.Streams.{Production}
-use Rattle.console.specs.Spelling.{reading_of}
-use Rattle.cmd_play.specs.declared.fault.PlayFault.{PlayFault}
-use Rattle.ascii_text.specs.Lines.{Cut, with_byte}
-use Rattle.cmd_play.specs.Lines.{ArePlayLines}
-use Rattle.cmd_play.specs.Run.{CarriedLine, CarriesOut, Emission, Ran, dues_after}
-use Rattle.cmd_play.specs.Run.{history_of, line_text, lines_of_run, sends_of_run, text_of_run}
-use Rattle.cmd_play.specs.declared.fault.PlayFault.TheVariants.{Device, Line}
-use Rattle.cmd_play.specs.Stage.{PlayLeaves, LeavesLine}
+use Rattle.cmd_play.proofs.Terms.{◌≡◌, ℕ, ◌+◌, refl, ap, arith, sym, subst, ◌∙◌, List, [], ◌∷◌}
+use Rattle.cmd_play.proofs.Terms.{◌++◌, append_assoc, append-nil, cond, All-nil, sum_by-append}
+use Rattle.cmd_play.proofs.Terms.{Send, Tape, with_more, with_more-none, with_more-twice}
+use Rattle.cmd_play.proofs.Terms.{AreOffered, Production, reading_of, PlayFault, Cut, with_byte}
+use Rattle.cmd_play.proofs.Terms.{ArePlayLines, CarriedLine, CarriesOut, Emission, Ran, dues_after}
+use Rattle.cmd_play.proofs.Terms.{history_of, line_text, lines_of_run, sends_of_run, text_of_run}
+use Rattle.cmd_play.proofs.Terms.{Device, Line, PlayLeaves, LeavesLine}
 
 -- ---- lines
 

@@ -1,15 +1,8 @@
 -- A stage that takes bytes.
-use Rattle.std.proofs.Common.{◌≡◌, ℕ, List, [], ◌∷◌, ◌++◌, refl, ap, ◌∙◌, arith, length-append}
-use Rattle.std.proofs.Common.{append_assoc}
-use Rattle.std.proofs.lemmas.List.Sums.{fold-append}
-use Rattle.fade.specs.declared.fader.Fader.{Ghosts}
-use Rattle.fade.specs.Level.{Start}
-use Rattle.console.specs.Streams.{Production}
-use Rattle.cmd_play.specs.declared.fault.PlayFault.{PlayFault}
-use Rattle.cmd_play.specs.declared.stage.Stage.{Stage}
-use Rattle.ascii_text.specs.Lines.{Cut, with_byte}
-use Rattle.cmd_play.specs.Run.{Emission, Ran}
-use Rattle.cmd_play.specs.Stage.{EndsPlay, PlayHasEnded, PlayHasTaken, PlayLeaves, StandsFor}
+use Rattle.cmd_play.proofs.Terms.{◌≡◌, ℕ, List, [], ◌∷◌, ◌++◌, refl, ap, ◌∙◌, arith, length-append}
+use Rattle.cmd_play.proofs.Terms.{append_assoc, fold-append, Ghosts, Start, Production, PlayFault}
+use Rattle.cmd_play.proofs.Terms.{Stage, Cut, with_byte, Emission, Ran, EndsPlay, PlayHasEnded}
+use Rattle.cmd_play.proofs.Terms.{PlayHasTaken, PlayLeaves, StandsFor}
 
 module _ {F : Type 0} {G : Ghosts F} {sf : F → List Start → Type 0} where
   -- no bytes

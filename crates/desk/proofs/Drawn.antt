@@ -1,31 +1,15 @@
 -- Frames, from the levels that they are made of.
-use Rattle.std.proofs.Common.{◌≡◌, ℕ, ◌+◌, ◌*◌, ◌<◌, Bool, true, false, ◌&&◌, IsTrue}
-use Rattle.std.proofs.Common.{List, [], ◌∷◌, length, Option, Some, None, is_some, refl}
-use Rattle.std.proofs.Common.{subst, ap, ◌∙◌, arith}
-use Rattle.std.specs.Prelude.{All, IfSome, max, map, replicate, slice_get}
-use Rattle.std.specs.List.{range_with_len}
-use Rattle.std.specs.Option.{option_map_or}
+use Rattle.desk.proofs.Terms.{◌≡◌, ℕ, ◌+◌, ◌*◌, ◌<◌, Bool, true, false, ◌&&◌, IsTrue, List, [], ◌∷◌}
+use Rattle.desk.proofs.Terms.{length, Option, Some, None, is_some, refl, subst, ap, ◌∙◌, arith, All}
+use Rattle.desk.proofs.Terms.{IfSome, max, map, replicate, slice_get, range_with_len, option_map_or}
+use Rattle.desk.proofs.Terms.{length-replicate, get_or-replicate, slice_get-get_or, is_channel}
+use Rattle.desk.proofs.Terms.{slot_of, PatchMap, value_in, Tables, playback_level, greatest_in}
+use Rattle.desk.proofs.Terms.{merged_after, sub_after, group_after, grand_after, listed_level}
+use Rattle.desk.proofs.Terms.{dimmer_slot, frame_of, AreDrawn, Command, Go, Back, Goto, GotoIn, Sub}
+use Rattle.desk.proofs.Terms.{Group, Master, End, false≢true, keeps_floors, dark, channel_level}
+use Rattle.desk.proofs.Terms.{frame, Move, with_due, moves_by, with_due-again, Act, order, tick}
+use Rattle.desk.proofs.Terms.{ticks_since_end, moves, settings}
 use Rattle.std.specs.FinMap as maps
-use Rattle.std.proofs.lemmas.List.{length-replicate, get_or-replicate}
-use Rattle.std.proofs.lemmas.Option.{slice_get-get_or}
-use Rattle.show.specs.Numbers.{is_channel}
-use Rattle.show.specs.Readers.{slot_of}
-use Rattle.show.specs.Tables.{PatchMap}
-use Rattle.show.proofs.Ranges.{value_in}
-use Rattle.show.specs.Tables.{Tables}
-use Rattle.playback.specs.Played.{playback_level}
-use Rattle.masters.specs.Merged.{greatest_in, merged_after}
-use Rattle.masters.specs.Settings.{sub_after, group_after, grand_after}
-use Rattle.patch.specs.Frame.{listed_level, dimmer_slot, frame_of, AreDrawn}
-use Rattle.desk.specs.declared.command.Command.{Command}
-use Rattle.desk.specs.declared.command.Command.TheVariants.{Go, Back, Goto, GotoIn, Sub}
-use Rattle.desk.specs.declared.command.Command.TheVariants.{Group, Master, End}
-use Rattle.std.proofs.lemmas.Bool.{false≢true}
-use Rattle.desk.specs.Stands.{keeps_floors}
-use Rattle.desk.specs.Meaning.{dark, channel_level, frame}
-use Rattle.playback.specs.Played.{Move, with_due, moves_by}
-use Rattle.playback.proofs.Due.{with_due-again}
-use Rattle.desk.specs.Played.{Act, order, tick, ticks_since_end, moves, settings}
 
 -- over a playback level, what submasters and groups make of a dark one
 over : (playback floor : ℕ) → max playback (max 0 floor) ≡ max playback floor

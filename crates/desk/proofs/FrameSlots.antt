@@ -1,17 +1,11 @@
 -- A frame has 512 slots, and 0 where no channel is patched; so has the latest frame.
-use Rattle.std.proofs.Common.{◌≡◌, ℕ, ◌+◌, ◌*◌, ◌<◌, refl, ap, ◌∙◌, List, [], ◌∷◌, length, None}
-use Rattle.std.specs.Prelude.{slice_index, is_some}
-use Rattle.std.specs.Option.{option_map_or}
+use Rattle.desk.proofs.Terms.{◌≡◌, ℕ, ◌+◌, ◌*◌, ◌<◌, refl, ap, ◌∙◌, List, [], ◌∷◌, length, None}
+use Rattle.desk.proofs.Terms.{slice_index, option_map_or, cond_both, get_or-replicate}
+use Rattle.desk.proofs.Terms.{length-map-range_with_len, get_or-map-range_with_len, slot_of, Tables}
+use Rattle.desk.proofs.Terms.{grand_after, dimmer_slot, frame_of, Call, order, tick, Act}
+use Rattle.desk.proofs.Terms.{ticks_since_end, settings, dark, frame, latest_frame, channel_level}
+use Rattle.std.specs.Prelude.{is_some}
 use Rattle.std.specs.FinMap as maps
-use Rattle.std.proofs.lemmas.Bool.{cond_both}
-use Rattle.std.proofs.lemmas.List.{get_or-replicate}
-use Rattle.std.proofs.lemmas.List.FromFn.{length-map-range_with_len, get_or-map-range_with_len}
-use Rattle.show.specs.Readers.{slot_of}
-use Rattle.show.specs.Tables.{Tables}
-use Rattle.masters.specs.Settings.{grand_after}
-use Rattle.patch.specs.Frame.{dimmer_slot, frame_of}
-use Rattle.desk.specs.Played.{Call, order, tick, Act, ticks_since_end, settings}
-use Rattle.desk.specs.Meaning.{dark, frame, latest_frame, channel_level}
 
 -- what holds of the dark frame, and of each that levels make
 module _ (P : List ℕ → Type 0) (s : Tables) (k : ℕ) (at_dark : P dark)

@@ -4,3 +4,4 @@ pub mod Small
 mod Rows
 pub mod FrameSlots
 pub mod LiveTick
+mod Terms

@@ -1,23 +1,12 @@
 -- A tick before End, from the playback and the frames that it leaves.
-use Rattle.std.proofs.Common.{◌≡◌, ℕ, ◌≤◌, Bool, false, List, ◌∷◌, Some, None, IsTrue, is_some}
-use Rattle.std.proofs.Common.{refl, sym, subst, ap, ◌∙◌, arith}
-use Rattle.std.specs.Prelude.{Contains, max}
-use Rattle.show.specs.Numbers.{is_channel}
-use Rattle.show.specs.Tables.{PatchMap, Tables}
-use Rattle.fade.specs.Level.{Start}
-use Rattle.playback.specs.Played.{Move, moves_by, playback_level, with_due}
-use Rattle.playback.specs.Playing.{PlaybackState}
+use Rattle.desk.proofs.Terms.{◌≡◌, ℕ, ◌≤◌, Bool, false, List, ◌∷◌, Some, None, IsTrue, is_some}
+use Rattle.desk.proofs.Terms.{refl, sym, subst, ap, ◌∙◌, arith, Contains, max, is_channel, PatchMap}
+use Rattle.desk.proofs.Terms.{Tables, Start, Move, moves_by, playback_level, with_due}
+use Rattle.desk.proofs.Terms.{PlaybackState, none_made, is_by-before, merged_after, Setting}
+use Rattle.desk.proofs.Terms.{grand_after, listed_level, AreDrawn, DeskState, Act, ticks_since_end}
+use Rattle.desk.proofs.Terms.{moves, settings, tick, channel_level, StandsFor, IsKeptBut}
 use Rattle.playback.specs.Stands as playback
-use Rattle.playback.proofs.Places.{none_made, is_by-before}
-use Rattle.masters.specs.Merged.{merged_after}
 use Rattle.masters.specs.Settings as masters
-use Rattle.masters.specs.Settings.{Setting, grand_after}
-use Rattle.patch.specs.Frame.{listed_level, AreDrawn}
-use Rattle.desk.specs.DeskState.{DeskState}
-use Rattle.desk.specs.Played.{Act, ticks_since_end, moves, settings, tick}
-use Rattle.desk.specs.Meaning.{channel_level}
-use Rattle.desk.specs.Stands.{StandsFor}
-use Rattle.desk.specs.Ticks.{IsKeptBut}
 use Rattle.desk.proofs.Drawn.{drawn_same, live_frame_is, merged_level, channel_level-tick}
 
 -- a desk after a tick, by what it then plays and shows

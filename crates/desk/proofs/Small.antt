@@ -1,24 +1,13 @@
 -- A small show, and what it means, evaluated: cue 1 brings channel 1 to full over five seconds;
 -- cue 2 brings channel 2 to full over two, and channel 1 out over four; submaster 1 has channel 1
 -- at half; dimmers 1 and 2 are patched to channels 1 and 2 at full.
-use Rattle.std.proofs.Common.{◌≡◌, ℕ, true, List, [], ◌∷◌, map, replicate, Option, Some}
-use Rattle.std.proofs.Common.{◌++◌, None, refl, ap, ◌∙◌}
-use Rattle.std.specs.List.{range_with_len}
-use Rattle.std.specs.Option.{option_map_or}
-use Rattle.std.specs.Ordering.{nat_cmp}
+use Rattle.desk.proofs.Terms.{◌≡◌, ℕ, true, List, [], ◌∷◌, Option, Some, ◌++◌, None, refl, ap, ◌∙◌}
+use Rattle.desk.proofs.Terms.{range_with_len, option_map_or, nat_cmp, CueData, slot_of, LevelMap}
+use Rattle.desk.proofs.Terms.{Tables, split_fade, grand_after, frame_of, is_base, Go, Sub, Move}
+use Rattle.desk.proofs.Terms.{with_due, with_due-none, move_to, Act, ticks_since_end, order}
+use Rattle.desk.proofs.Terms.{settings, tick, channel_level, frame, universe_numbers}
+use Rattle.std.proofs.Common.{map, replicate}
 use Rattle.std.specs.FinMap as map
-use Rattle.show.specs.declared.cue.CueData.{CueData}
-use Rattle.show.specs.Readers.{slot_of}
-use Rattle.show.specs.Tables.{LevelMap, Tables}
-use Rattle.fade.specs.Level.{split_fade}
-use Rattle.masters.specs.Settings.{grand_after}
-use Rattle.patch.specs.Frame.{frame_of, is_base}
-use Rattle.desk.specs.declared.command.Command.TheVariants.{Go, Sub}
-use Rattle.playback.specs.Played.{Move, with_due}
-use Rattle.playback.proofs.Due.{with_due-none}
-use Rattle.playback.proofs.Places.{move_to}
-use Rattle.desk.specs.Played.{Act, ticks_since_end, order, settings, tick}
-use Rattle.desk.specs.Meaning.{channel_level, frame, universe_numbers}
 
 -- the levels of a cue or a submaster that has one channel at one level
 one_level : ℕ → ℕ → LevelMap

@@ -1,21 +1,12 @@
 -- The numbers of the universes of a patch: they rise, and are in their range.
-use Rattle.std.proofs.Common.{◌≡◌, ℕ, ◌+◌, ◌-◌, ◌<◌, ◌≤◌, true, IsTrue, List, length, get_or, sym}
-use Rattle.std.proofs.Common.{subst, ap, arith}
-use Rattle.std.specs.Prelude.{All, Contains, map, Result, Ok, Err, IsOk, OnOk}
-use Rattle.std.specs.List.{range_with_len}
-use Rattle.std.specs.List.Sorted.{IsStrictlyIncreasing}
-use Rattle.std.proofs.lemmas.Bool.{false≢true}
-use Rattle.std.proofs.lemmas.Bool.Decides.{nat_tests}
-use Rattle.std.proofs.lemmas.List.{get_or-map, length-map}
-use Rattle.std.proofs.lemmas.List.Elements.{All-map, All-filter, All-contains}
-use Rattle.std.proofs.lemmas.List.FromFn.{length-range_with_len, get_or-range_with_len}
-use Rattle.std.proofs.lemmas.List.Kept.{IsStrictlyIncreasing-filter}
-use Rattle.std.proofs.lemmas.List.Sums.{AllPass-from_list_all}
-use Rattle.show.specs.Readers.{has_dimmer_in, patch_ordinals}
-use Rattle.show.specs.Tables.{PatchMap}
-use Rattle.show.proofs.Sorted.{and_right, from_true, to_true}
-use Rattle.patch.specs.Frame.{is_universe, is_base}
-use Rattle.desk.specs.Meaning.{universe_numbers}
+use Rattle.desk.proofs.Terms.{◌≡◌, ℕ, ◌+◌, ◌-◌, ◌<◌, ◌≤◌, true, IsTrue, List, length, get_or, sym}
+use Rattle.desk.proofs.Terms.{subst, ap, arith, All, Contains, map, Result, Ok, Err, IsOk, OnOk}
+use Rattle.desk.proofs.Terms.{range_with_len, IsStrictlyIncreasing, false≢true, nat_tests}
+use Rattle.desk.proofs.Terms.{get_or-map, length-map, All-map, All-filter, All-contains}
+use Rattle.desk.proofs.Terms.{length-range_with_len, get_or-range_with_len}
+use Rattle.desk.proofs.Terms.{IsStrictlyIncreasing-filter, AllPass-from_list_all, has_dimmer_in}
+use Rattle.desk.proofs.Terms.{patch_ordinals, PatchMap, and_right, from_true, to_true, is_universe}
+use Rattle.desk.proofs.Terms.{is_base, universe_numbers}
 
 -- each ordinal has a number
 pub ordinals_in : (patch : PatchMap) (base : ℕ) → is_base patch base ≡ true

@@ -1,21 +1,13 @@
 -- What a desk accepts of a night.
-use Rattle.std.proofs.Common.{◌≡◌, ◌≤◌, ◌<◌, ◌^◌, ℕ, ◌+◌, true, false, refl, ap, ◌∙◌, arith, List}
-use Rattle.std.proofs.Common.{◌∷◌, Option, Some, None}
-use Rattle.std.specs.Prelude.{is_none}
-use Rattle.std.specs.Option.{option_map_or}
-use Rattle.std.proofs.lemmas.Bool.{cond_both}
-use Rattle.std.proofs.lemmas.Bool.Decides.{nat_tests}
-use Rattle.show.specs.Tables.{Tables}
-use Rattle.masters.specs.Settings.{Setting}
-use Rattle.desk.specs.declared.command.Command.{Command}
-use Rattle.desk.specs.declared.command.Command.TheVariants.{End, Master}
+use Rattle.live_input.proofs.Terms.{◌≡◌, ◌≤◌, ◌<◌, ◌^◌, ℕ, ◌+◌, true, false, refl, ap, ◌∙◌, arith}
+use Rattle.live_input.proofs.Terms.{List, ◌∷◌, Option, Some, None, is_none, option_map_or}
+use Rattle.live_input.proofs.Terms.{cond_both, nat_tests, Tables, Setting, Command, End, Master}
+use Rattle.live_input.proofs.Terms.{Act, last_act_moment, last_tick, Stage, On, Dark, Ended, IsDim}
+use Rattle.live_input.proofs.Terms.{accepted_acts, since_end, acts_with, Answer, Happening}
+use Rattle.live_input.proofs.Terms.{answer_to, answers, asked, next_tick, close, dim, is_on}
+use Rattle.live_input.proofs.Terms.{is_through, now, order, stage, stage_by, tick}
 use Rattle.desk.specs.Played as desk
-use Rattle.desk.specs.Played.{Act, last_act_moment, last_tick, refusal}
-use Rattle.live_input.specs.declared.progress.Stage.{Stage}
-use Rattle.live_input.specs.declared.progress.Stage.TheVariants.{On, Dark, Ended}
-use Rattle.live_input.specs.Laws.{IsDim, accepted_acts, since_end, acts_with}
-use Rattle.live_input.specs.Night.{Answer, Happening, answer_to, answers, asked, next_tick}
-use Rattle.live_input.specs.Night.{close, dim, is_on, is_through, now, order, stage, stage_by, tick}
+use Rattle.desk.specs.Played.{refusal}
 use Rattle.live_input.proofs.Asked.{is_end}
 use Rattle.live_input.proofs.Cases.{Keeps, Next, answer_is_next, clock_below, through}
 use Rattle.live_input.proofs.Cases.{closes, darkens, dims, leaves, takes, ticks}

@@ -1,19 +1,12 @@
 -- The answer to what is asked, and what is kept then.
-use Rattle.std.proofs.Common.{arith, ◌≡◌, ℕ, max, min, Bool, false, refl, sym, ◌∙◌, List, [], ◌∷◌}
-use Rattle.std.proofs.Common.{◌++◌, Option, Some, None}
-use Rattle.live_input.specs.declared.progress.Progress.{Progress}
-use Rattle.live_input.specs.Kept.{InputState, TypedKept}
-use Rattle.live_input.specs.Night.{Answer, Happening, answer_to, answers, asked, before_lines}
-use Rattle.live_input.specs.Night.{bytes_come, close, dim}
-use Rattle.live_input.specs.Night.{by_itself, ignored_keys, is_on, is_over, is_through}
-use Rattle.live_input.specs.Night.{lines_answered, now, request_of, stage, to_line, to_request}
-use Rattle.live_input.specs.declared.request.Request.{Request}
-use Rattle.live_input.specs.declared.request.Request.TheVariants.{Nothing, Where, Help, Leave}
-use Rattle.live_input.specs.declared.request.Request.TheVariants.{Finish, Order}
-use Rattle.live_input.specs.Keys.{has_keys}
-use Rattle.live_input.specs.Stands.{StandsFor, TakesLine, TypedStands}
-use Rattle.live_input.specs.declared.given.Given.{Given}
-use Rattle.live_input.specs.Told.{Leaves, Tells, TellsFirst}
+use Rattle.live_input.proofs.Terms.{arith, ◌≡◌, ℕ, max, min, Bool, false, refl, sym, ◌∙◌, List, []}
+use Rattle.live_input.proofs.Terms.{◌∷◌, ◌++◌, Option, Some, None, Progress, InputState, TypedKept}
+use Rattle.live_input.proofs.Terms.{Answer, Happening, answer_to, answers, asked, before_lines}
+use Rattle.live_input.proofs.Terms.{bytes_come, close, dim, by_itself, ignored_keys, is_on, is_over}
+use Rattle.live_input.proofs.Terms.{is_through, lines_answered, now, request_of, stage, to_line}
+use Rattle.live_input.proofs.Terms.{to_request, Request, Nothing, Where, Help, Leave, Finish, Order}
+use Rattle.live_input.proofs.Terms.{has_keys, StandsFor, TakesLine, TypedStands, Given, Leaves}
+use Rattle.live_input.proofs.Terms.{Tells, TellsFirst}
 use Rattle.live_input.proofs.TypedLemmas.{none_left}
 
 pub request_more : (given : List Answer) (n : ℕ) (line : List ℕ) (request : Request)

@@ -1,17 +1,9 @@
 -- What a line asks for, and what that says of the line.
-use Rattle.std.proofs.Common.{◌≡◌, ◌≤◌, ℕ, Bool, true, false, refl, List, length, Option, Some}
-use Rattle.std.proofs.Common.{None}
-use Rattle.std.specs.Prelude.{codes, nat_le}
-use Rattle.std.proofs.lemmas.Bool.{cond_both, leb-true}
-use Rattle.ascii_text.specs.Text.{words_of}
-use Rattle.desk.specs.declared.command.Command.{Command}
-use Rattle.desk.specs.declared.command.Command.TheVariants.{End}
-use Rattle.console.specs.Spelling.{command_of}
-use Rattle.live_input.specs.declared.request.Request.{Request}
-use Rattle.live_input.specs.declared.request.Request.TheVariants.{Leave, Finish, Order}
-use Rattle.live_input.specs.Keys.{without_keys}
-use Rattle.live_input.specs.Night.{asks_help, behind_moment, command_asked, is_only, order_asked}
-use Rattle.live_input.specs.Night.{request_of, words_asked}
+use Rattle.live_input.proofs.Terms.{◌≡◌, ◌≤◌, ℕ, Bool, true, false, refl, List, length, Option}
+use Rattle.live_input.proofs.Terms.{Some, None, codes, nat_le, cond_both, leb-true, words_of}
+use Rattle.live_input.proofs.Terms.{Command, End, command_of, Request, Leave, Finish, Order}
+use Rattle.live_input.proofs.Terms.{without_keys, asks_help, behind_moment, command_asked, is_only}
+use Rattle.live_input.proofs.Terms.{order_asked, request_of, words_asked}
 
 abbrev pub is_end : Command → Bool
 is_end End = true

@@ -1,22 +1,14 @@
 -- The answers that there are, and what holds through a night.
-use Rattle.std.proofs.Common.{◌≡◌, ◌≤◌, ◌<◌, ◌^◌, ℕ, true, false, refl, arith, List, [], ◌∷◌}
-use Rattle.std.proofs.Common.{length, Some, None}
-use Rattle.std.specs.Prelude.{◌&&◌, nat_le, unwrap_or}
-use Rattle.std.proofs.lemmas.Bool.{and_parts, cond_both, le-leb, leb-true}
-use Rattle.ascii_text.specs.Text.{words_of}
-use Rattle.desk.specs.declared.command.Command.{Command}
-use Rattle.console.specs.Spelling.{command_of}
-use Rattle.live_input.specs.Night.{Answer, Happening, answer_to, answers, asked, behind_moment}
-use Rattle.live_input.specs.Laws.{IsOn}
-use Rattle.live_input.specs.Night.{before_lines, next_tick, ends_with_input, goes_first}
-use Rattle.live_input.specs.Night.{is_light_down, is_on, is_over, unanswered_lines, now}
-use Rattle.live_input.specs.Night.{request_of, stage, to_lines, to_request, words_asked}
-use Rattle.live_input.specs.Night.{order, dim, close, tick, place, help, refusal, wait, over}
-use Rattle.live_input.specs.declared.reason.Reason.{Reason}
-use Rattle.live_input.specs.declared.request.Request.{Request}
-use Rattle.live_input.specs.declared.request.Request.TheVariants.{Nothing, Where, Help, Leave}
-use Rattle.live_input.specs.declared.request.Request.TheVariants.{Finish, Order}
-use Rattle.live_input.specs.Keys.{without_keys}
+use Rattle.live_input.proofs.Terms.{◌≡◌, ◌≤◌, ◌<◌, ◌^◌, ℕ, true, false, refl, arith, List, [], ◌∷◌}
+use Rattle.live_input.proofs.Terms.{length, Some, None, ◌&&◌, nat_le, unwrap_or, and_parts}
+use Rattle.live_input.proofs.Terms.{cond_both, le-leb, leb-true, words_of, Command, command_of}
+use Rattle.live_input.proofs.Terms.{Answer, Happening, answer_to, answers, asked, behind_moment}
+use Rattle.live_input.proofs.Terms.{IsOn, before_lines, next_tick, ends_with_input, goes_first}
+use Rattle.live_input.proofs.Terms.{is_light_down, is_on, is_over, unanswered_lines, now}
+use Rattle.live_input.proofs.Terms.{request_of, stage, to_lines, to_request, words_asked, order}
+use Rattle.live_input.proofs.Terms.{dim, close, tick, place, help, refusal, wait, over, Reason}
+use Rattle.live_input.proofs.Terms.{Request, Nothing, Where, Help, Leave, Finish, Order}
+use Rattle.live_input.proofs.Terms.{without_keys}
 use Rattle.live_input.proofs.Asked.{Meets, is_end, request_meets}
 
 -- commands are taken, and no tick goes first

@@ -1,14 +1,9 @@
 -- What is given at the end of a night.
-use Rattle.std.proofs.Common.{◌≡◌, ℕ, suc, ◌+◌, Bool, true, false, refl, ap, arith, List, ◌∷◌}
-use Rattle.std.proofs.Common.{Option, Some, None}
-use Rattle.std.specs.Prelude.{codes}
-use Rattle.std.proofs.lemmas.Bool.Decides.{nat_tests}
-use Rattle.live_input.specs.declared.progress.Stage.{Stage}
-use Rattle.live_input.specs.declared.progress.Stage.TheVariants.{On, Dark, Ended}
-use Rattle.live_input.specs.Laws.{IsEnding, was_left, words_given}
-use Rattle.live_input.specs.Night.{Happening, answers, close, dim, is_light_down, is_on, is_through}
-use Rattle.live_input.specs.Night.{stage, stage_by, tick}
-use Rattle.live_input.specs.Keys.{without_keys}
+use Rattle.live_input.proofs.Terms.{◌≡◌, ℕ, suc, ◌+◌, Bool, true, false, refl, ap, arith, List, ◌∷◌}
+use Rattle.live_input.proofs.Terms.{Option, Some, None, codes, nat_tests, Stage, On, Dark, Ended}
+use Rattle.live_input.proofs.Terms.{IsEnding, was_left, words_given, Happening, answers, close, dim}
+use Rattle.live_input.proofs.Terms.{is_light_down, is_on, is_through, stage, stage_by, tick}
+use Rattle.live_input.proofs.Terms.{without_keys}
 use Rattle.live_input.proofs.Cases.{Keeps, closes, darkens, dims, leaves, takes, through, ticks}
 
 -- before `end` nobody left

@@ -1,30 +1,21 @@
 -- The lines that are given, as `play` reads them.
-use Rattle.std.proofs.Common.{◌≡◌, ◌≤◌, ◌<◌, ◌^◌, ℕ, true, false, refl, ap, ◌∙◌, arith, List, []}
-use Rattle.std.proofs.Common.{◌∷◌, ◌++◌, length, fold, reverse, append_assoc, length-append, Option}
-use Rattle.std.proofs.Common.{Some, None, ◌+◌, append-nil}
-use Rattle.std.proofs.lemmas.List.{take_all}
-use Rattle.std.proofs.lemmas.List.Sums.{fold-append}
+use Rattle.live_input.proofs.Terms.{◌≡◌, ◌≤◌, ◌<◌, ◌^◌, ℕ, true, false, refl, ap, ◌∙◌, arith, List}
+use Rattle.live_input.proofs.Terms.{[], ◌∷◌, ◌++◌, length, fold, reverse, append_assoc}
+use Rattle.live_input.proofs.Terms.{length-append, Option, Some, None, ◌+◌, append-nil, take_all}
+use Rattle.live_input.proofs.Terms.{fold-append, ◌==◌, is_some, codes, decimal, flat_map, not, All}
+use Rattle.live_input.proofs.Terms.{list_all, cond_both, not-true, elements, moves}
+use Rattle.live_input.proofs.Terms.{AllPass-from_list_all, length-decimal-le, All-append, All-cons}
+use Rattle.live_input.proofs.Terms.{All-drop, All-head, All-nil, All-push, All-tail, All-take}
+use Rattle.live_input.proofs.Terms.{All-weaker, lines_of, words_of, Command, call_of, command_of}
+use Rattle.live_input.proofs.Terms.{is_malformed, reading_of, PlayTakes, IsSpelled, SpellsCommand}
+use Rattle.live_input.proofs.Terms.{lines_text, Answer, Happening, answer_to, answers, asked}
+use Rattle.live_input.proofs.Terms.{behind_moment, bytes_come, lines_given, unanswered_lines}
+use Rattle.live_input.proofs.Terms.{TypedLines, nothing_typed, says_nothing, typed_of}
+use Rattle.live_input.proofs.Terms.{with_typed_byte, without_keys}
 use Rattle.live_input.proofs.TypedLemmas.{more_typed}
-use Rattle.std.specs.Prelude.{◌==◌, is_some, codes, decimal, flat_map, not, All}
-use Rattle.std.specs.List.{list_all}
-use Rattle.std.proofs.lemmas.Bool.{cond_both, not-true}
-use Rattle.std.proofs.lemmas.Grind.{elements, moves}
-use Rattle.std.proofs.lemmas.List.Sums.{AllPass-from_list_all}
-use Rattle.std.proofs.lemmas.Fmt.{length-decimal-le}
-use Rattle.std.proofs.lemmas.List.Elements.{All-append, All-cons, All-drop, All-head, All-nil}
-use Rattle.std.proofs.lemmas.List.Elements.{All-push, All-tail, All-take, All-weaker}
-use Rattle.ascii_text.specs.Text.{lines_of, words_of}
-use Rattle.desk.specs.declared.command.Command.{Command}
 use Rattle.console.specs.Spelling as spelling
-use Rattle.console.specs.Spelling.{call_of, command_of, is_malformed, reading_of}
-use Rattle.live_input.specs.Laws.{PlayTakes, IsSpelled, SpellsCommand, lines_text}
-use Rattle.live_input.specs.Night.{Answer, Happening, answer_to, answers, asked, behind_moment}
-use Rattle.live_input.specs.Night.{bytes_come, lines_given, unanswered_lines}
-use Rattle.live_input.specs.Typed.{TypedLines, nothing_typed, says_nothing, typed_of}
-use Rattle.live_input.specs.Typed.{with_typed_byte}
 use Rattle.live_input.proofs.Cases.{Keeps, Next, answer_is_next, clock_below, through}
 use Rattle.live_input.proofs.Cases.{closes, darkens, dims, leaves, takes, ticks}
-use Rattle.live_input.specs.Keys.{without_keys}
 use Rattle.live_input.proofs.KeyLemmas.{keys_short, keys_whole}
 use Rattle.live_input.proofs.Spelled.{call_is, no_digit, reading_is}
 

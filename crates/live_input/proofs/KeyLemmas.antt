@@ -1,13 +1,9 @@
 -- The text of a line without its keys.
-use Rattle.std.proofs.Common.{◌≡◌, ◌≤◌, ◌+◌, ℕ, suc, arith, List, [], ◌∷◌, length}
-use Rattle.std.proofs.Common.{length-append, refl, ap}
-use Rattle.std.specs.Prelude.{All, decimal}
-use Rattle.std.proofs.lemmas.Bool.{cond_both, not-true}
-use Rattle.std.proofs.lemmas.List.Elements.{All-cons, All-head, All-nil, All-tail}
-use Rattle.live_input.specs.declared.keys.Part.{Part}
-use Rattle.live_input.specs.declared.keys.Part.TheVariants.{Text}
-use Rattle.live_input.specs.Keys.{is_escape, is_text_byte, part_after, text_from, without_keys}
-use Rattle.live_input.specs.Night.{behind_moment}
+use Rattle.live_input.proofs.Terms.{◌≡◌, ◌≤◌, ◌+◌, ℕ, suc, arith, List, [], ◌∷◌, length}
+use Rattle.live_input.proofs.Terms.{length-append, refl, ap, All, decimal, cond_both, not-true}
+use Rattle.live_input.proofs.Terms.{All-cons, All-head, All-nil, All-tail, Part, Text, is_escape}
+use Rattle.live_input.proofs.Terms.{is_text_byte, part_after, text_from, without_keys}
+use Rattle.live_input.proofs.Terms.{behind_moment}
 
 -- it is no longer than the line
 text_short : (part : Part) (line : List ℕ) → length (text_from part line) ≤ length line

@@ -12,3 +12,4 @@ pub mod Records
 pub mod Spelled
 pub mod TypedLemmas
 pub mod Turns
+mod Terms

@@ -1,20 +1,13 @@
 -- What holds through a night.
-use Rattle.std.proofs.Common.{◌≤◌, ℕ, List, [], ◌∷◌, arith, ◌≡◌, true, false}
-use Rattle.std.proofs.Common.{length, None, ◌↔◌, refl, ◌++◌, drop, append_assoc}
-use Rattle.std.proofs.Common.{append-nil, Bool}
-use Rattle.std.specs.List.{filter_map}
-use Rattle.std.proofs.lemmas.Bool.Decides.{nat_tests}
-use Rattle.std.proofs.Math.Seq.{drop-append_seam}
-use Rattle.live_input.specs.Laws.{AlwaysRise, LinesFollowTicks, Rise, TicksGoFirst, moment_given}
-use Rattle.live_input.specs.Laws.{IsEnding, tick_moment, was_left, words_given}
-use Rattle.live_input.specs.Night.{Answer, Happening, answers, next_tick, now, dim, stage}
-use Rattle.live_input.specs.Night.{ends_with_input, is_light_down, is_on, is_through}
-use Rattle.live_input.specs.Night.{answer_to, asked, bytes_come, came, closed, is_over}
-use Rattle.live_input.specs.declared.progress.Stage.{Stage}
-use Rattle.live_input.specs.declared.progress.Stage.TheVariants.{On, Dark, Ended}
-use Rattle.live_input.specs.Night.{goes_first, lines_answered, unanswered_lines, over, wait}
-use Rattle.live_input.specs.Night.{was_tick}
-use Rattle.live_input.specs.Typed.{typed_of}
+use Rattle.live_input.proofs.Terms.{◌≤◌, ℕ, List, [], ◌∷◌, arith, ◌≡◌, true, false, length, None}
+use Rattle.live_input.proofs.Terms.{◌↔◌, refl, ◌++◌, drop, append_assoc, append-nil, Bool}
+use Rattle.live_input.proofs.Terms.{filter_map, nat_tests, drop-append_seam, AlwaysRise}
+use Rattle.live_input.proofs.Terms.{LinesFollowTicks, Rise, TicksGoFirst, moment_given, IsEnding}
+use Rattle.live_input.proofs.Terms.{tick_moment, was_left, words_given, Answer, Happening, answers}
+use Rattle.live_input.proofs.Terms.{next_tick, now, dim, stage, ends_with_input, is_light_down}
+use Rattle.live_input.proofs.Terms.{is_on, is_through, answer_to, asked, bytes_come, came, closed}
+use Rattle.live_input.proofs.Terms.{is_over, Stage, On, Dark, Ended, goes_first, lines_answered}
+use Rattle.live_input.proofs.Terms.{unanswered_lines, over, wait, was_tick, typed_of}
 use Rattle.live_input.proofs.Cases.{Keeps, Next, closes, takes, through, ticks, answer_is_next}
 use Rattle.live_input.proofs.Cases.{nothing, places, helps, refuses, waits, darkens, dims, leaves}
 use Rattle.live_input.proofs.Ending.{ends_whole}

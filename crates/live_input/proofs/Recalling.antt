@@ -1,30 +1,19 @@
 -- Lines of a record that are given again.
-use Rattle.std.proofs.Common.{◌≡◌, ℕ, ◌+◌, refl, ap, sym, ◌∙◌, arith, List, [], ◌∷◌, ◌++◌, length}
-use Rattle.std.proofs.Common.{drop, decimal, Bool, not, true, false, Option, Some, None}
-use Rattle.std.specs.Prelude.{IfNone, is_some, option_map}
-use Rattle.std.proofs.lemmas.List.{append_cancel_right}
-use Rattle.desk.specs.declared.command.Command.{Command}
-use Rattle.desk.specs.declared.command.Command.TheVariants.{Go, Back, Goto, GotoIn, Sub}
-use Rattle.desk.specs.declared.command.Command.TheVariants.{Group, Master, End}
-use Rattle.console.specs.declared.call.Call.{Call}
-use Rattle.console.specs.declared.call.Call.TheVariants.{Order, Tick}
-use Rattle.console.specs.declared.reading.Reading.{Reading}
-use Rattle.console.specs.declared.reading.Reading.TheVariants.{At, Blank, Malformed}
-use Rattle.console.specs.Spelling.{reading_of}
-use Rattle.live_input.specs.declared.given.Given.{Given}
-use Rattle.live_input.specs.declared.given.GivenLine.{GivenLine}
-use Rattle.live_input.specs.declared.given.Given.TheVariants.{Help, Line, Over, Refused, Until}
+use Rattle.live_input.proofs.Terms.{◌≡◌, ℕ, ◌+◌, refl, ap, sym, ◌∙◌, arith, List, [], ◌∷◌, ◌++◌}
+use Rattle.live_input.proofs.Terms.{length, drop, Bool, true, false, Option, Some, None, IfNone}
+use Rattle.live_input.proofs.Terms.{is_some, option_map, append_cancel_right, Command, Go, Back}
+use Rattle.live_input.proofs.Terms.{Goto, GotoIn, Sub, Group, Master, End, Call, Tick, Reading, At}
+use Rattle.live_input.proofs.Terms.{Blank, Malformed, reading_of, Given, GivenLine, Line, Over}
+use Rattle.live_input.proofs.Terms.{Refused, Until, Answer, Happening, answer_to, answers, asked}
+use Rattle.live_input.proofs.Terms.{came, bytes_come, lines_answered, lines_given, unanswered_lines}
+use Rattle.live_input.proofs.Terms.{with_given, order, dim, close, tick, place, help, refusal, wait}
+use Rattle.live_input.proofs.Terms.{over, AreRecalled, IsRecalled, recall_of, recall_line}
+use Rattle.live_input.proofs.Terms.{recalled_by, typed_again, TypedKept, TakesLine, TypedStands}
+use Rattle.live_input.proofs.Terms.{IsGiven, Tells, typed_of}
+use Rattle.std.proofs.Common.{decimal, not}
+use Rattle.console.specs.declared.call.Call.TheVariants.{Order}
+use Rattle.live_input.specs.declared.given.Given.TheVariants.{Help}
 use Rattle.live_input.specs.declared.given.Given.TheVariants.{Where}
-use Rattle.live_input.specs.Night.{Answer, Happening, answer_to, answers, asked, came}
-use Rattle.live_input.specs.Night.{bytes_come, lines_answered, lines_given, unanswered_lines}
-use Rattle.live_input.specs.Night.{with_given}
-use Rattle.live_input.specs.Night.{order, dim, close, tick, place, help, refusal, wait, over}
-use Rattle.live_input.specs.Recall.{AreRecalled, IsRecalled, recall_of, recall_line, recalled_by}
-use Rattle.live_input.specs.Recall.{typed_again}
-use Rattle.live_input.specs.Kept.{TypedKept}
-use Rattle.live_input.specs.Stands.{TakesLine, TypedStands}
-use Rattle.live_input.specs.Told.{IsGiven, Tells}
-use Rattle.live_input.specs.Typed.{typed_of}
 use Rattle.live_input.proofs.TypedLemmas.{none_left}
 
 -- ---- an answer, by what was given

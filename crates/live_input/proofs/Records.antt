@@ -1,32 +1,17 @@
 -- Each record of a live night is given again.
-use Rattle.std.proofs.Common.{None, ◌≡◌, ◌≤◌, ◌<◌, ◌^◌, ℕ, true, false, refl, ap}
-use Rattle.std.proofs.Common.{◌∙◌, arith, List, [], ◌∷◌, ◌++◌, length, append_assoc, Option, Some}
-use Rattle.std.specs.Prelude.{◌==◌, nat_le, unwrap_or, All, codes, decimal}
-use Rattle.std.proofs.lemmas.Bool.{cond_both, le-leb}
-use Rattle.std.proofs.lemmas.Bool.Decides.{nat_tests}
-use Rattle.std.proofs.lemmas.List.Elements.{All-head}
-use Rattle.std.proofs.Math.Seq.{drop-append-add, drop-append_seam, drop-length}
-use Rattle.ascii_text.specs.Text.{words_of}
-use Rattle.desk.specs.declared.command.Command.{Command}
-use Rattle.desk.specs.declared.command.Command.TheVariants.{End, Master}
+use Rattle.live_input.proofs.Terms.{None, ◌≡◌, ◌≤◌, ◌<◌, ◌^◌, ℕ, true, false, refl, ap, ◌∙◌, arith}
+use Rattle.live_input.proofs.Terms.{List, [], ◌∷◌, ◌++◌, length, append_assoc, Option, Some, ◌==◌}
+use Rattle.live_input.proofs.Terms.{nat_le, unwrap_or, All, codes, decimal, cond_both, le-leb}
+use Rattle.live_input.proofs.Terms.{nat_tests, All-head, drop-append-add, drop-append_seam}
+use Rattle.live_input.proofs.Terms.{drop-length, words_of, Command, End, Master, command_of, Text}
+use Rattle.live_input.proofs.Terms.{Stage, On, Dark, Ended, Request, Leave, Order, without_keys}
+use Rattle.live_input.proofs.Terms.{RecordsAreRecalled, Answer, Happening, answers, asked}
+use Rattle.live_input.proofs.Terms.{behind_moment, by_itself, bytes_come, came, next_tick}
+use Rattle.live_input.proofs.Terms.{ends_with_input, goes_first, is_light_down, is_through}
+use Rattle.live_input.proofs.Terms.{lines_answered, lines_given, unanswered_lines, now, stage}
+use Rattle.live_input.proofs.Terms.{stage_by, to_request, was_tick, words_asked, order, dim, close}
+use Rattle.live_input.proofs.Terms.{tick, over, AreRecalled, recall_of, recall_line, typed_of}
 use Rattle.console.specs.declared.call.Call.TheVariants as call
-use Rattle.console.specs.Spelling.{command_of}
-use Rattle.live_input.specs.declared.keys.Part.TheVariants.{Text}
-use Rattle.live_input.specs.declared.progress.Stage.{Stage}
-use Rattle.live_input.specs.declared.progress.Stage.TheVariants.{On, Dark, Ended}
-use Rattle.live_input.specs.declared.request.Request.{Request}
-use Rattle.live_input.specs.declared.request.Request.TheVariants.{Leave, Order}
-use Rattle.live_input.specs.Keys.{without_keys}
-use Rattle.live_input.specs.Laws.{RecordsAreRecalled}
-use Rattle.live_input.specs.Night.{Answer, Happening, answers, asked, behind_moment}
-use Rattle.live_input.specs.Night.{by_itself, bytes_come, came, next_tick, ends_with_input}
-use Rattle.live_input.specs.Night.{goes_first}
-use Rattle.live_input.specs.Night.{is_light_down, is_through, lines_answered, lines_given}
-use Rattle.live_input.specs.Night.{unanswered_lines}
-use Rattle.live_input.specs.Night.{now, stage, stage_by, to_request, was_tick}
-use Rattle.live_input.specs.Night.{words_asked, order, dim, close, tick, over}
-use Rattle.live_input.specs.Recall.{AreRecalled, recall_of, recall_line}
-use Rattle.live_input.specs.Typed.{typed_of}
 use Rattle.live_input.proofs.Answering.{request_more}
 use Rattle.live_input.proofs.Cases.{HasTurn, Keeps, Ordinary, closes, darkens, dims, leaves, takes}
 use Rattle.live_input.proofs.Cases.{through, ticks}

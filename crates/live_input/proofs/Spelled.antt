@@ -1,28 +1,19 @@
 -- Numbers in a text, and words behind a moment.
-use Rattle.std.proofs.Common.{◌≡◌, ◌<◌, ◌^◌, ℕ, zero, suc, ◌+◌, ◌/◌, ◌%◌, Bool, true, false, refl}
-use Rattle.std.proofs.Common.{ap, arith, rules, List, [], ◌∷◌, ◌++◌, length, append_assoc, Some}
-use Rattle.std.proofs.Common.{None, one-add}
-use Rattle.std.specs.Prelude.{◌==◌, codes, decimal, map, option_map, All}
-use Rattle.std.specs.Char.{is_ascii_digit, to_ascii_lowercase}
-use Rattle.std.specs.Fmt.{digit_glyph, digits, digits_onto}
-use Rattle.std.specs.List.{list_all, position_or_len}
-use Rattle.std.specs.Str.Parse.{digits_value}
-use Rattle.std.proofs.Math.Seq.{take-append-add}
-use Rattle.std.proofs.lemmas.Bool.{agree_below, agree_below_at, cond_both}
-use Rattle.std.proofs.lemmas.Bool.Decides.{nat_tests}
-use Rattle.std.proofs.lemmas.Fmt.{decimal_nonempty, digits_decimal, digits_value-decimal}
-use Rattle.std.proofs.lemmas.Fmt.{length-decimal-le}
-use Rattle.std.proofs.lemmas.List.Elements.{All-cons, All-head, All-nil, All-tail}
-use Rattle.std.proofs.lemmas.List.Splits.{slice_split_at}
-use Rattle.std.proofs.lemmas.Slice.Eq.{bytes_eq-Decides}
-use Rattle.std.proofs.lemmas.Str.Parse.{IsNumeralModel, numerals_by_value}
-use Rattle.ascii_text.specs.Forms.{moment_of, same_word}
-use Rattle.ascii_text.specs.Text.{is_bang, is_separator, is_word, words_of}
-use Rattle.desk.specs.declared.command.Command.{Command}
+use Rattle.live_input.proofs.Terms.{◌≡◌, ◌<◌, ◌^◌, ℕ, zero, suc, ◌+◌, ◌/◌, ◌%◌, Bool, true, false}
+use Rattle.live_input.proofs.Terms.{refl, ap, arith, rules, List, [], ◌∷◌, ◌++◌, length}
+use Rattle.live_input.proofs.Terms.{append_assoc, Some, None, one-add, ◌==◌, codes, decimal}
+use Rattle.live_input.proofs.Terms.{option_map, All, is_ascii_digit, to_ascii_lowercase}
+use Rattle.live_input.proofs.Terms.{digit_glyph, digits, digits_onto, list_all, position_or_len}
+use Rattle.live_input.proofs.Terms.{digits_value, take-append-add, agree_below, agree_below_at}
+use Rattle.live_input.proofs.Terms.{cond_both, nat_tests, decimal_nonempty, digits_decimal}
+use Rattle.live_input.proofs.Terms.{digits_value-decimal, length-decimal-le, All-cons, All-head}
+use Rattle.live_input.proofs.Terms.{All-nil, All-tail, slice_split_at, bytes_eq-Decides}
+use Rattle.live_input.proofs.Terms.{IsNumeralModel, numerals_by_value, moment_of, same_word}
+use Rattle.live_input.proofs.Terms.{is_bang, is_separator, is_word, words_of, Command, call_of}
+use Rattle.live_input.proofs.Terms.{command_of, command_with, reading_of, behind_moment}
+use Rattle.std.specs.Prelude.{map}
 use Rattle.console.specs.declared.call.Call.TheVariants.{Order}
 use Rattle.console.specs.Spelling as spelling
-use Rattle.console.specs.Spelling.{call_of, command_of, command_with, reading_of}
-use Rattle.live_input.specs.Night.{behind_moment}
 
 -- ---- the digits of a number
 

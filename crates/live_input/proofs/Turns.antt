@@ -1,10 +1,9 @@
 -- Between a tick's due moment and the tick there is at most one line.
-use Rattle.std.proofs.Common.{◌≡◌, ◌⊎◌, inl, inr, ◌≤◌, ℕ, false, List, [], ◌∷◌, ◌++◌, arith}
-use Rattle.std.proofs.Common.{refl, Some, None}
-use Rattle.live_input.specs.Laws.{IsOn, IsTick, NothingIsAsked, TicksAreNext}
-use Rattle.live_input.specs.Night.{Answer, Happening, answer_to, answers, asked, came, closed}
-use Rattle.live_input.specs.Night.{next_tick, is_over, now, stage}
-use Rattle.live_input.specs.Night.{was_tick, order, dim, close, place, help, refusal, wait}
+use Rattle.live_input.proofs.Terms.{◌≡◌, ◌⊎◌, inl, inr, ◌≤◌, ℕ, false, List, [], ◌∷◌, ◌++◌, arith}
+use Rattle.live_input.proofs.Terms.{refl, Some, None, IsOn, IsTick, NothingIsAsked, TicksAreNext}
+use Rattle.live_input.proofs.Terms.{Answer, Happening, answer_to, answers, asked, came, closed}
+use Rattle.live_input.proofs.Terms.{next_tick, is_over, now, stage, was_tick, order, dim, close}
+use Rattle.live_input.proofs.Terms.{place, help, refusal, wait}
 use Rattle.live_input.proofs.Cases.{Next, answer_is_next, nothing, ticks, takes, darkens, leaves}
 use Rattle.live_input.proofs.Cases.{places, helps, refuses, dims, closes, waits}
 use Rattle.live_input.proofs.Nights.{dark_only, on_only, ticks_first}

@@ -1,16 +1,10 @@
 -- The lines of a growing text.
-use Rattle.std.proofs.Common.{Bool, true, false, cond, take, arith, ◌≡◌, ◌<◌, ℕ, ◌+◌, sym, List, []}
-use Rattle.std.proofs.Common.{◌∷◌, ◌++◌, length, drop, get_or, fold, append_assoc, append-nil}
-use Rattle.std.specs.Prelude.{◌==◌}
-use Rattle.std.proofs.lemmas.List.{drop_more}
-use Rattle.std.proofs.Math.Seq.{drop-append_seam, drop-length}
-use Rattle.std.proofs.lemmas.Bool.{cond_both}
-use Rattle.std.proofs.lemmas.Bool.Decides.{nat_tests}
-use Rattle.std.proofs.lemmas.List.Sums.{fold-append}
-use Rattle.live_input.specs.Kept.{TypedKept}
-use Rattle.live_input.specs.Stands.{IsNext, TypedStands}
-use Rattle.live_input.specs.Typed.{TypedLines, nothing_typed, says_nothing, typed_of}
-use Rattle.live_input.specs.Typed.{with_typed_byte}
+use Rattle.live_input.proofs.Terms.{Bool, true, false, cond, take, arith, ◌≡◌, ◌<◌, ℕ, ◌+◌, sym}
+use Rattle.live_input.proofs.Terms.{List, [], ◌∷◌, ◌++◌, length, drop, get_or, fold, append_assoc}
+use Rattle.live_input.proofs.Terms.{append-nil, ◌==◌, drop_more, drop-append_seam, drop-length}
+use Rattle.live_input.proofs.Terms.{cond_both, nat_tests, fold-append, TypedKept, IsNext}
+use Rattle.live_input.proofs.Terms.{TypedStands, TypedLines, nothing_typed, says_nothing, typed_of}
+use Rattle.live_input.proofs.Terms.{with_typed_byte}
 
 -- the new lines are the old ones and some more
 abbrev pub Adds : List (List ℕ) → List (List ℕ) → Type 0

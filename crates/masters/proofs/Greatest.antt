@@ -1,13 +1,8 @@
 -- The greatest of the records of a table, record by record.
-use Rattle.std.proofs.Common.{◌≡◌, ℕ, ◌+◌, ◌*◌, ◌<◌, List, [], ◌∷◌, ◌++◌, length, get_or}
-use Rattle.std.proofs.Common.{take, refl, sym, ap, ◌∙◌, arith}
-use Rattle.std.specs.Prelude.{All, map, max}
-use Rattle.std.specs.FinMap.{entries}
-use Rattle.std.proofs.lemmas.List.{map-append, take_more}
-use Rattle.std.proofs.lemmas.List.Elements.{All-head, All-tail, All-weaker}
-use Rattle.show.specs.Readers.{level_in}
-use Rattle.show.specs.Tables.{LevelMap, MasterMap}
-use Rattle.masters.specs.Merged.{greatest, greatest_in}
+use Rattle.masters.proofs.Terms.{◌≡◌, ℕ, ◌+◌, ◌*◌, ◌<◌, List, [], ◌∷◌, ◌++◌, length, get_or, take}
+use Rattle.masters.proofs.Terms.{refl, sym, ap, ◌∙◌, arith, All, map, max, entries, map-append}
+use Rattle.masters.proofs.Terms.{take_more, All-head, All-tail, All-weaker, level_in, LevelMap}
+use Rattle.masters.proofs.Terms.{MasterMap, greatest, greatest_in}
 
 -- one number more
 greatest_more : (xs : List ℕ) (y : ℕ) → greatest (xs ++ y ∷ []) ≡ max (greatest xs) y

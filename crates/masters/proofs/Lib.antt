@@ -1,3 +1,4 @@
 pub mod Raised
 pub mod Greatest
 mod Rows
+mod Terms

@@ -1,18 +1,10 @@
 -- The pairs of a record raise the levels of their channels, one by one.
-use Rattle.std.proofs.Common.{◌≡◌, ℕ, ◌+◌, ◌*◌, ◌<◌, ◌≤◌, true, false, IsTrue, T}
-use Rattle.std.proofs.Common.{List, [], ◌∷◌, length, get_or, set, refl, ap, ◌∙◌, arith, inl, inr}
-use Rattle.std.specs.Prelude.{max, unwrap_or, ◌==◌}
-use Rattle.std.specs.Cmp.{unsigned_tied, ranks}
-use Rattle.std.specs.Ordering.{nat_cmp, is_lt, MatchOrdering}
-use Rattle.std.specs.declared.cmp.Ordering.{Ordering}
-use Rattle.std.specs.FinMap.{find, is_sorted}
-use Rattle.std.specs.FinMap.Entries.{below_all}
-use Rattle.std.proofs.lemmas.Bool.{cases_eq}
-use Rattle.std.proofs.lemmas.Bool.Decides.{nat_tests}
-use Rattle.std.proofs.lemmas.Grind.{get_or-set_at}
-use Rattle.std.proofs.lemmas.List.{get_or-set_other}
-use Rattle.show.proofs.Sorted.{and_left, and_right, from_true}
-use Rattle.show.specs.Numbers.{is_channel}
+use Rattle.masters.proofs.Terms.{◌≡◌, ℕ, ◌+◌, ◌*◌, ◌<◌, ◌≤◌, true, false, IsTrue, T, List, [], ◌∷◌}
+use Rattle.masters.proofs.Terms.{length, get_or, set, refl, ap, ◌∙◌, arith, inl, inr, max}
+use Rattle.masters.proofs.Terms.{unwrap_or, ◌==◌, unsigned_tied, ranks, nat_cmp, is_lt}
+use Rattle.masters.proofs.Terms.{MatchOrdering, Ordering, find, is_sorted, below_all, cases_eq}
+use Rattle.masters.proofs.Terms.{nat_tests, get_or-set_at, get_or-set_other, and_left, and_right}
+use Rattle.masters.proofs.Terms.{from_true, is_channel}
 
 -- the byte of a channel among pairs
 abbrev pub byte_in : List (ℕ × ℕ) → ℕ → ℕ

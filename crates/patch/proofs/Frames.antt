@@ -1,26 +1,16 @@
 -- Entries that rise by their keys: which are below a key, and what a front of them finds. By them a
 -- frame is filled, dimmer by dimmer.
-use Rattle.std.proofs.Common.{◌≡◌, ◌≢◌, ℕ, ◌+◌, ◌<◌, ◌≤◌, true, false, IsTrue, List, [], ◌∷◌, ◌++◌}
-use Rattle.std.proofs.Common.{length, get_or, take, drop, None, refl, arith, ◌-◌, set, Some, cond}
-use Rattle.std.proofs.Common.{sym, ◌∙◌, replicate}
-use Rattle.std.specs.Prelude.{All, map}
-use Rattle.std.specs.List.{AllWithin, range_with_len}
-use Rattle.std.specs.List.Sorted.{IsNonDecreasingBy}
-use Rattle.std.specs.Ordering.{nat_cmp, eq_by_cmp}
-use Rattle.std.specs.Cmp.{nat_cmp_total, unsigned_tied}
-use Rattle.std.specs.FinMap.{FinMap, find, is_sorted, entries, entries_sorted, from_sorted}
-use Rattle.std.specs.FinMap.{entries-from_sorted, same_entries_map}
-use Rattle.std.specs.declared.cmp.Ordering.TheVariants.{Less}
-use Rattle.std.proofs.lemmas.Bool.Decides.{nat_tests}
-use Rattle.std.proofs.lemmas.List.{get_or-take, get_or-drop, length-drop, length-take, ext_get_or}
-use Rattle.std.proofs.lemmas.List.{get_or_default, take_more, take-append-drop, get_or-replicate}
-use Rattle.std.proofs.lemmas.List.{get_or-set_other}
-use Rattle.std.proofs.lemmas.List.Elements.{All-head, All-tail, All-from_get_or}
-use Rattle.show.proofs.Sorted.{sorted_at, from_true}
-use Rattle.std.specs.Option.{option_map_or}
-use Rattle.std.specs.FinMap.Entries.{find-append}
-use Rattle.std.proofs.lemmas.Grind.{get_or-set_at}
-use Rattle.std.proofs.lemmas.List.FromFn.{length-map-range_with_len, get_or-map-range_with_len}
+use Rattle.patch.proofs.Terms.{◌≡◌, ◌≢◌, ℕ, ◌+◌, ◌<◌, ◌≤◌, true, false, IsTrue, List, [], ◌∷◌, ◌++◌}
+use Rattle.patch.proofs.Terms.{length, get_or, take, drop, None, refl, arith, ◌-◌, set, Some, cond}
+use Rattle.patch.proofs.Terms.{sym, ◌∙◌, replicate, All, map, AllWithin, range_with_len}
+use Rattle.patch.proofs.Terms.{IsNonDecreasingBy, nat_cmp, eq_by_cmp, nat_cmp_total, unsigned_tied}
+use Rattle.patch.proofs.Terms.{FinMap, find, is_sorted, entries, entries_sorted, from_sorted}
+use Rattle.patch.proofs.Terms.{entries-from_sorted, same_entries_map, Less, nat_tests, get_or-take}
+use Rattle.patch.proofs.Terms.{get_or-drop, length-drop, length-take, ext_get_or, get_or_default}
+use Rattle.patch.proofs.Terms.{take_more, take-append-drop, get_or-replicate, get_or-set_other}
+use Rattle.patch.proofs.Terms.{All-head, All-tail, All-from_get_or, sorted_at, from_true}
+use Rattle.patch.proofs.Terms.{option_map_or, find-append, get_or-set_at, length-map-range_with_len}
+use Rattle.patch.proofs.Terms.{get_or-map-range_with_len}
 
 -- what a comparison and a test of keys say
 pub below_of : (x y : ℕ) → nat_cmp x y ≡ Less → x < y

@@ -1,11 +1,8 @@
 -- The slots of all dimmers in a row, and the frames of the universes among them.
-use Rattle.std.proofs.Common.{◌≡◌, ℕ, zero, suc, ◌+◌, ◌*◌, ◌<◌, List, length, get_or, take, drop, Some}
-use Rattle.std.proofs.Common.{◌-◌, replicate, refl, ap, ◌∙◌, arith}
-use Rattle.std.specs.Prelude.{slice_get}
-use Rattle.std.specs.Simd.{first_chunks}
-use Rattle.std.proofs.lemmas.List.{drop-drop, drop-replicate, get_or-drop, get_or-take, length-drop}
-use Rattle.std.proofs.lemmas.List.{length-take, take-replicate}
-use Rattle.patch.specs.Frame.{frames_in}
+use Rattle.patch.proofs.Terms.{◌≡◌, ℕ, zero, suc, ◌+◌, ◌*◌, ◌<◌, List, length, get_or, take, drop}
+use Rattle.patch.proofs.Terms.{Some, ◌-◌, replicate, refl, ap, ◌∙◌, arith, slice_get, first_chunks}
+use Rattle.patch.proofs.Terms.{drop-drop, drop-replicate, get_or-drop, get_or-take, length-drop}
+use Rattle.patch.proofs.Terms.{length-take, take-replicate, frames_in}
 
 -- the chunk at a place begins behind all before it
 chunk_at : (n k place : ℕ) (xs : List ℕ) → place < k

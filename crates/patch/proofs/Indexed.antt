@@ -1,22 +1,13 @@
 -- The dimmers by their channels: those of a channel lie between two places, and are those that the
 -- patch has.
-use Rattle.std.proofs.Common.{◌≡◌, ℕ, zero, suc, ◌+◌, ◌-◌, ◌<◌, ◌≤◌, inl, inr, T, List, [], ◌∷◌}
-use Rattle.std.proofs.Common.{◌++◌, length, get_or, Some, refl, sym, ap, ◌∙◌, arith}
-use Rattle.std.specs.Prelude.{All, Contains}
-use Rattle.std.specs.Ordering.{nat_cmp, eq_by_cmp}
-use Rattle.std.specs.Cmp.{nat_cmp_total}
+use Rattle.patch.proofs.Terms.{◌≡◌, ℕ, zero, suc, ◌+◌, ◌-◌, ◌<◌, ◌≤◌, inl, inr, T, List, [], ◌∷◌}
+use Rattle.patch.proofs.Terms.{◌++◌, length, get_or, Some, refl, sym, ap, ◌∙◌, arith, All, Contains}
+use Rattle.patch.proofs.Terms.{nat_cmp, eq_by_cmp, nat_cmp_total, find, cases_lt, cond_both}
+use Rattle.patch.proofs.Terms.{nat_tests, get_or-append_seam, get_or_default, get_or_append_left}
+use Rattle.patch.proofs.Terms.{All-permutation, Contains-permutation, exact_unsigned, tells_apart}
+use Rattle.patch.proofs.Terms.{PatchMap, sorted_at, find_at, IsIndex, dimmer_at, channel_at}
+use Rattle.patch.proofs.Terms.{byte_at}
 use Rattle.std.specs.FinMap as map
-use Rattle.std.specs.FinMap.{find}
-use Rattle.std.proofs.lemmas.Bool.{cases_lt, cond_both}
-use Rattle.std.proofs.lemmas.Bool.Decides.{nat_tests}
-use Rattle.std.proofs.Math.Seq.{get_or-append_seam}
-use Rattle.std.proofs.lemmas.List.{get_or_default, get_or_append_left}
-use Rattle.std.proofs.lemmas.List.Sorted.{All-permutation, Contains-permutation}
-use Rattle.std.proofs.lemmas.Map.Lookups.{exact_unsigned}
-use Rattle.std.proofs.lemmas.Map.Views.{tells_apart}
-use Rattle.show.specs.Tables.{PatchMap}
-use Rattle.show.proofs.Sorted.{sorted_at, find_at}
-use Rattle.patch.specs.Index.{IsIndex, dimmer_at, channel_at, byte_at}
 
 module _ {V : Type 0} where
   -- each entry is found by its key

@@ -5,3 +5,4 @@ pub mod Redrawn
 pub mod Sourced
 pub mod Vectors
 mod Rows
+mod Terms

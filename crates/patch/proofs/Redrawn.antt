@@ -1,22 +1,13 @@
 -- Slots are those of their dimmers again, once those of some channels are written.
-use Rattle.std.proofs.Common.{◌≡◌, ◌≢◌, ℕ, ◌+◌, ◌-◌, ◌/◌, ◌%◌, ◌<◌, ◌≤◌, inl, inr, nat_eq, IsTrue}
-use Rattle.std.proofs.Common.{List, [], length, get_or, set, Option, Some, None, refl, sym, ◌∙◌, arith}
-use Rattle.std.proofs.Common.{◌*◌, ap}
-use Rattle.std.specs.Prelude.{if◌then◌else◌, All}
+use Rattle.patch.proofs.Terms.{◌≡◌, ◌≢◌, ℕ, ◌+◌, ◌-◌, ◌/◌, ◌%◌, ◌<◌, ◌≤◌, inl, inr, nat_eq, IsTrue}
+use Rattle.patch.proofs.Terms.{List, [], length, get_or, set, Option, Some, None, refl, sym, ◌∙◌}
+use Rattle.patch.proofs.Terms.{arith, ◌*◌, ap, if◌then◌else◌, All, cases_eq, nat_tests}
+use Rattle.patch.proofs.Terms.{get_or-set_at, get_or-set_other, is_channel, is_dimmer, slot_of}
+use Rattle.patch.proofs.Terms.{PatchMap, dimmer_slot, frame_of, frames_in, AreDrawn, value_in}
+use Rattle.patch.proofs.Terms.{IsIndex, slot_at, dimmer_at, byte_at, get_or-map-range_with_len}
+use Rattle.patch.proofs.Terms.{get_or_from_slice_get}
 use Rattle.std.specs.FinMap as map
-use Rattle.std.proofs.lemmas.Bool.{cases_eq}
-use Rattle.std.proofs.lemmas.Bool.Decides.{nat_tests}
-use Rattle.std.proofs.lemmas.Grind.{get_or-set_at}
-use Rattle.std.proofs.lemmas.List.{get_or-set_other}
-use Rattle.show.specs.Numbers.{is_channel, is_dimmer}
-use Rattle.show.specs.Readers.{slot_of}
-use Rattle.show.specs.Tables.{PatchMap}
-use Rattle.patch.specs.Frame.{dimmer_slot, frame_of, frames_in, AreDrawn}
-use Rattle.show.proofs.Ranges.{value_in}
-use Rattle.patch.specs.Index.{IsIndex, slot_at, dimmer_at, byte_at}
 use Rattle.patch.proofs.Indexed.{entry, complete}
-use Rattle.std.proofs.lemmas.List.FromFn.{get_or-map-range_with_len}
-use Rattle.std.proofs.lemmas.Option.{get_or_from_slice_get}
 use Rattle.patch.proofs.Frames.{frame_is}
 use Rattle.patch.proofs.InARow.{own, frame_in, own_size, own_slot}
 

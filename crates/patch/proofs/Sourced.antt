@@ -1,16 +1,9 @@
 -- Each dimmer gets its source and its byte, and the slots that these make are its own.
-use Rattle.std.proofs.Common.{◌≡◌, ℕ, ◌+◌, ◌-◌, ◌*◌, ◌<◌, IsTrue, List, length, get_or, set, take}
-use Rattle.std.proofs.Common.{refl, arith}
-use Rattle.std.specs.Option.{option_map_or}
-use Rattle.std.specs.Ordering.{nat_cmp}
-use Rattle.std.specs.FinMap.{find, is_sorted}
-use Rattle.std.proofs.lemmas.Grind.{get_or-set_at}
-use Rattle.std.proofs.lemmas.List.{get_or-set_other}
-use Rattle.show.specs.Tables.{PatchMap}
-use Rattle.show.specs.Readers.{slot_of}
+use Rattle.patch.proofs.Terms.{◌≡◌, ℕ, ◌+◌, ◌-◌, ◌*◌, ◌<◌, IsTrue, List, length, get_or, set, take}
+use Rattle.patch.proofs.Terms.{refl, arith, option_map_or, nat_cmp, find, is_sorted, get_or-set_at}
+use Rattle.patch.proofs.Terms.{get_or-set_other, PatchMap, slot_of, dimmer_slot, listed_level}
+use Rattle.patch.proofs.Terms.{AreSources}
 use Rattle.patch.proofs.Frames.{other_key, same_key, find_more}
-use Rattle.patch.specs.Frame.{dimmer_slot, listed_level}
-use Rattle.patch.specs.Sources.{AreSources}
 
 -- a byte of 0 makes a dark slot
 pub slot_dark : (level grand : ℕ) → slot_of level grand 0 ≡ 0

@@ -1,9 +1,8 @@
 -- A vector as the list of its lanes: the greater of two, and a vector in a list of slots.
-use Rattle.std.proofs.Common.{◌≡◌, ℕ, ◌+◌, ◌-◌, ◌<◌, ◌≤◌, max, List, Bool, true, false, cond}
-use Rattle.std.proofs.Common.{ltb, length, get_or, refl, ap, ◌∙◌, arith}
-use Rattle.std.specs.Simd.Lanes.{zip2, sel_l, chunk, put_chunk}
-use Rattle.std.proofs.lemmas.Bool.{ltb-true, ltb-false}
-use Rattle.std.proofs.lemmas.Simd.{length-zip2, get_or-zip2, length-sel_l, get_or-sel_l, get_or-chunk, get_or-put_chunk_at}
+use Rattle.patch.proofs.Terms.{◌≡◌, ℕ, ◌+◌, ◌-◌, ◌<◌, ◌≤◌, max, List, Bool, true, false, cond, ltb}
+use Rattle.patch.proofs.Terms.{length, get_or, refl, ap, ◌∙◌, arith, zip2, sel_l, chunk, put_chunk}
+use Rattle.patch.proofs.Terms.{ltb-true, ltb-false, length-zip2, get_or-zip2, length-sel_l}
+use Rattle.patch.proofs.Terms.{get_or-sel_l, get_or-chunk, get_or-put_chunk_at}
 
 chosen : (x y : ℕ) (less : Bool) → ltb x y ≡ less → cond less y x ≡ max x y
 chosen x y true is = omega (arith, ltb-true x y is)

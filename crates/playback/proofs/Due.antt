@@ -1,11 +1,8 @@
 -- The moves that are due: each goes to a greater cue number, so none is left.
-use Rattle.std.proofs.Common.{◌≡◌, ℕ, ◌<◌, ◌≤◌, List, [], ◌∷◌, length, Some, None, refl, arith}
-use Rattle.std.specs.Prelude.{find, nat_lt, IfSome}
+use Rattle.playback.proofs.Terms.{◌≡◌, ℕ, ◌<◌, ◌≤◌, List, [], ◌∷◌, length, Some, None, refl, arith}
+use Rattle.playback.proofs.Terms.{find, nat_lt, IfSome, nat_tests, Tables, count_above, Move}
+use Rattle.playback.proofs.Terms.{next_move, with_follow_ons, with_due}
 use Rattle.std.specs.FinMap as map
-use Rattle.std.proofs.lemmas.Bool.Decides.{nat_tests}
-use Rattle.show.specs.Tables.{Tables}
-use Rattle.playback.specs.Placed.{count_above}
-use Rattle.playback.specs.Played.{Move, next_move, with_follow_ons, with_due}
 
 -- ---- numbers above another
 

@@ -1,23 +1,11 @@
 -- A cue that is found above or below another is there, and a move goes to it.
-use Rattle.std.proofs.Common.{◌≡◌, ℕ, Bool, true, List, [], ◌∷◌, Option, Some, None, refl, arith}
-use Rattle.std.specs.Prelude.{find, reverse, Result}
-use Rattle.std.specs.List.{list_any}
-use Rattle.std.specs.Option.{ok_or}
-use Rattle.std.specs.Ordering.{nat_cmp, eq_by_cmp}
-use Rattle.std.specs.Cmp.{unsigned_tied}
+use Rattle.playback.proofs.Terms.{◌≡◌, ℕ, Bool, true, List, [], ◌∷◌, Option, Some, None, refl}
+use Rattle.playback.proofs.Terms.{arith, find, reverse, Result, list_any, ok_or, nat_cmp, eq_by_cmp}
+use Rattle.playback.proofs.Terms.{unsigned_tied, contains_key-keys, nat_tests, reverse-append}
+use Rattle.playback.proofs.Terms.{list_any-append, cue_above, cue_below, CueMap, Tables, Start}
+use Rattle.playback.proofs.Terms.{NoMove, NoCue, Move, current_after, goto_target, moves_by}
+use Rattle.playback.proofs.Terms.{PlaybackState, Moves, StandsFor, Steps}
 use Rattle.std.specs.FinMap as map
-use Rattle.std.specs.FinMap.{contains_key-keys}
-use Rattle.std.proofs.lemmas.Bool.Decides.{nat_tests}
-use Rattle.std.proofs.lemmas.List.{reverse-append}
-use Rattle.std.proofs.lemmas.List.Folds.{list_any-append}
-use Rattle.show.specs.Readers.{cue_above, cue_below}
-use Rattle.show.specs.Tables.{CueMap, Tables}
-use Rattle.fade.specs.Level.{Start}
-use Rattle.playback.specs.declared.playback.NoMove.{NoMove}
-use Rattle.playback.specs.declared.playback.NoMove.TheVariants.{NoCue}
-use Rattle.playback.specs.Played.{Move, current_after, goto_target, moves_by}
-use Rattle.playback.specs.Playing.{PlaybackState}
-use Rattle.playback.specs.Stands.{Moves, StandsFor, Steps}
 
 list_any-reverse : (p : ℕ → Bool) (xs : List ℕ) → list_any p (reverse xs) ≡ list_any p xs
 list_any-reverse p [] = refl

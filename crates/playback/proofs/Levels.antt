@@ -1,13 +1,8 @@
 -- The levels after moves are those after the starts that the moves make, and never turn back.
-use Rattle.std.proofs.Common.{◌≡◌, ℕ, ◌-◌, ◌*◌, ◌≤◌, List, [], ◌∷◌, inl, refl, arith}
-use Rattle.std.specs.Prelude.{map}
-use Rattle.std.specs.FinMap.{get-entries}
-use Rattle.show.specs.Readers.{level_in}
-use Rattle.show.specs.Tables.{Tables}
-use Rattle.fade.specs.Level.{level_after, IsTowards}
-use Rattle.fade.proofs.Fade.{split_fade_towards}
-use Rattle.playback.specs.Played.{Move, start_of, cue_at, up_rate, down_rate}
-use Rattle.playback.specs.Played.{playback_level, playback_target}
+use Rattle.playback.proofs.Terms.{◌≡◌, ℕ, ◌-◌, ◌*◌, ◌≤◌, List, [], ◌∷◌, inl, refl, arith, map}
+use Rattle.playback.proofs.Terms.{get-entries, level_in, Tables, level_after, IsTowards}
+use Rattle.playback.proofs.Terms.{split_fade_towards, Move, start_of, cue_at, up_rate, down_rate}
+use Rattle.playback.proofs.Terms.{playback_level, playback_target}
 
 pub level_after-map : (show : Tables) (moves : List Move) (channel moment : ℕ)
     → level_after (map (start_of show) moves) channel moment

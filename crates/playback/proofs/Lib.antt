@@ -4,3 +4,4 @@ pub mod Look
 pub mod Due
 pub mod Places
 mod Rows
+mod Terms

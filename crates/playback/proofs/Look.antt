@@ -1,15 +1,8 @@
 -- The levels of a cue, as the look that a fader is given.
-use Rattle.std.proofs.Common.{ℕ, ◌≤◌, IsTrue, arith, get_or}
-use Rattle.std.specs.Prelude.{All}
+use Rattle.playback.proofs.Terms.{ℕ, ◌≤◌, IsTrue, arith, get_or, All, is_sorted, entries_sorted}
+use Rattle.playback.proofs.Terms.{nat_cmp, nat_tests, get_or-map, length-map, is_channel}
+use Rattle.playback.proofs.Terms.{HasChannels, LevelMap, to_true}
 use Rattle.std.specs.FinMap as map
-use Rattle.std.specs.FinMap.{is_sorted, entries_sorted}
-use Rattle.std.specs.Ordering.{nat_cmp}
-use Rattle.std.proofs.lemmas.Bool.Decides.{nat_tests}
-use Rattle.std.proofs.lemmas.List.{get_or-map, length-map}
-use Rattle.show.specs.Numbers.{is_channel}
-use Rattle.show.specs.Readers.{HasChannels}
-use Rattle.show.specs.Tables.{LevelMap}
-use Rattle.show.proofs.Sorted.{to_true}
 
 pub is_sorted-entries : (levels : LevelMap) → IsTrue (is_sorted nat_cmp (map.entries levels))
 is_sorted-entries levels = to_true (entries_sorted levels)

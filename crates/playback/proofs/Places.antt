@@ -1,14 +1,8 @@
 -- The place in the cue list, as the moves that are due are made.
-use Rattle.std.proofs.Common.{◌≡◌, ℕ, ◌≤◌, Bool, true, false, List, [], ◌∷◌, Option, Some, None}
-use Rattle.std.proofs.Common.{refl, sym, ◌∙◌, arith}
-use Rattle.std.specs.Prelude.{unwrap_or, option_map}
-use Rattle.std.proofs.lemmas.Bool.Decides.{nat_tests}
-use Rattle.show.specs.Readers.{cue_above}
-use Rattle.show.specs.Tables.{Tables}
-use Rattle.playback.specs.declared.place.Place.{Place}
-use Rattle.playback.specs.Placed.{IsPlaceAfter}
-use Rattle.playback.specs.Played.{Move, current_after, next_move, due_moment, with_due, moves_by}
-use Rattle.playback.specs.Played.{is_by}
+use Rattle.playback.proofs.Terms.{◌≡◌, ℕ, ◌≤◌, Bool, true, false, List, [], ◌∷◌, Option, Some, None}
+use Rattle.playback.proofs.Terms.{refl, sym, ◌∙◌, arith, unwrap_or, option_map, nat_tests}
+use Rattle.playback.proofs.Terms.{cue_above, Tables, Place, IsPlaceAfter, Move, current_after}
+use Rattle.playback.proofs.Terms.{next_move, due_moment, with_due, moves_by, is_by}
 use Rattle.playback.proofs.Due.{with_due-due, with_due-none}
 
 abbrev pub move_to : ℕ → ℕ → Move

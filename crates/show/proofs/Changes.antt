@@ -1,14 +1,9 @@
 -- What a change of the value at a key makes of the map.
-use Rattle.std.proofs.Common.{◌≡◌, ℕ, List, [], ◌∷◌, Some, None, true, false}
-use Rattle.std.proofs.Common.{cond, refl, sym, ap, ◌∙◌}
-use Rattle.std.specs.Option.{option_map_or}
-use Rattle.std.specs.Ordering.{nat_cmp, is_eq, eq_by_cmp}
-use Rattle.std.specs.Cmp.{nat_cmp_total, tied_itself}
+use Rattle.show.proofs.Terms.{◌≡◌, ℕ, List, [], ◌∷◌, Some, None, true, false, cond, refl, sym, ap}
+use Rattle.show.proofs.Terms.{◌∙◌, option_map_or, nat_cmp, is_eq, eq_by_cmp, nat_cmp_total}
+use Rattle.show.proofs.Terms.{tied_itself, tells_apart, exact_unsigned, CueMap, MasterMap}
+use Rattle.show.proofs.Terms.{with_change, with_bytes, with_levels, with_all_listed}
 use Rattle.std.specs.FinMap as map
-use Rattle.std.proofs.lemmas.Map.Views.{tells_apart}
-use Rattle.std.proofs.lemmas.Map.Lookups.{exact_unsigned}
-use Rattle.show.specs.Tables.{CueMap, MasterMap}
-use Rattle.show.specs.Builders.{with_change, with_bytes, with_levels, with_all_listed}
 
 module _ {V : Type 0} where
   same : (a b : map.FinMap nat_cmp V) → ((q : ℕ) → map.get a q ≡ map.get b q) → a ≡ b

@@ -1,29 +1,17 @@
 -- Many entries put into sorted ones, and what that is to their map.
-use Rattle.std.proofs.Common.{◌≡◌, ◌≢◌, ℕ, zero, suc, ◌+◌, ◌-◌, ◌<◌, ◌≤◌, ◌==◌, true, false, Bool}
-use Rattle.std.proofs.Common.{not, cond, IsTrue, T, List, [], ◌∷◌, ◌++◌, length, get_or, set, take}
-use Rattle.std.proofs.Common.{count_by, Option, Some, None, refl, sym, ap, ◌∙◌, arith, inl, inr}
-use Rattle.std.proofs.Common.{append_assoc, drop, subst}
-use Rattle.std.specs.Prelude.{All, filter, nat_lt, option_map, map as map_list}
-use Rattle.std.specs.List.{list_all}
-use Rattle.std.specs.Option.{option_to_list}
-use Rattle.std.specs.Ordering.{nat_cmp, is_lt, is_eq, eq_by_cmp}
-use Rattle.std.specs.Cmp.{nat_cmp_total, tied_itself}
+use Rattle.show.proofs.Terms.{◌≡◌, ◌≢◌, ℕ, zero, suc, ◌+◌, ◌-◌, ◌<◌, ◌≤◌, ◌==◌, true, false, Bool}
+use Rattle.show.proofs.Terms.{not, cond, IsTrue, T, List, [], ◌∷◌, ◌++◌, length, get_or, set, take}
+use Rattle.show.proofs.Terms.{count_by, Option, Some, None, refl, sym, ap, ◌∙◌, arith, inl, inr}
+use Rattle.show.proofs.Terms.{append_assoc, drop, subst, All, filter, nat_lt, option_map, list_all}
+use Rattle.show.proofs.Terms.{option_to_list, nat_cmp, is_lt, is_eq, eq_by_cmp, nat_cmp_total}
+use Rattle.show.proofs.Terms.{tied_itself, below_all, find-put, find-append, Less, Equal, Greater}
+use Rattle.show.proofs.Terms.{cases_lt, nat_tests, drop_more, take_more, length-set}
+use Rattle.show.proofs.Terms.{get_or-set_same, get_or-set_other, All-head, All-tail, All-map}
+use Rattle.show.proofs.Terms.{All-same, All-push, sum_by-cons, tells_apart, exact_unsigned}
+use Rattle.show.proofs.Terms.{is_channel, without, with_entry, with_entries, with_all, IsTableOf}
+use Rattle.show.proofs.Terms.{LevelMap, PatchMap, with_bytes, patched_with, all_patched}
+use Rattle.std.specs.Prelude.{map as map_list}
 use Rattle.std.specs.FinMap as map
-use Rattle.std.specs.FinMap.Entries.{below_all, find-put, find-append}
-use Rattle.std.specs.declared.cmp.Ordering.TheVariants.{Less, Equal, Greater}
-use Rattle.std.proofs.lemmas.Bool.{cases_lt}
-use Rattle.std.proofs.lemmas.Bool.Decides.{nat_tests}
-use Rattle.std.proofs.lemmas.List.{drop_more, take_more, length-set, get_or-set_same}
-use Rattle.std.proofs.lemmas.List.{get_or-set_other}
-use Rattle.std.proofs.lemmas.List.Elements.{All-head, All-tail, All-map, All-same, All-push}
-use Rattle.std.proofs.lemmas.List.Sums.{sum_by-cons}
-use Rattle.std.proofs.lemmas.Map.Views.{tells_apart}
-use Rattle.std.proofs.lemmas.Map.Lookups.{exact_unsigned}
-use Rattle.show.specs.Numbers.{is_channel}
-use Rattle.show.specs.Place.{without}
-use Rattle.show.specs.Many.{with_entry, with_entries, with_all, IsTableOf}
-use Rattle.show.specs.Tables.{LevelMap, PatchMap}
-use Rattle.show.specs.Builders.{with_bytes, patched_with, all_patched}
 use Rattle.show.proofs.Sorted.{sorted_put, from_sorted-put, sorted_at, turned, less, not_so}
 use Rattle.show.proofs.Sorted.{and_left, and_right, from_true, to_true}
 use Rattle.show.proofs.Removed.{sorted_without, from_sorted-without, find-without}

@@ -1,20 +1,13 @@
 -- Each builder keeps the numbers of a show in their ranges.
-use Rattle.std.proofs.Common.{◌≡◌, ℕ, ◌+◌, ◌<◌, ◌≤◌, ◌==◌, true, false, cond, IsTrue, Option, Some}
-use Rattle.std.proofs.Common.{None, is_some, List, [], ◌∷◌, refl, ap, ◌∙◌, arith}
-use Rattle.std.specs.Prelude.{All, IfSome, option_map}
-use Rattle.std.specs.List.{list_all}
-use Rattle.std.specs.Option.{OnSome, option_map_or}
-use Rattle.std.specs.Ordering.{nat_cmp}
-use Rattle.std.specs.Cmp.{nat_cmp_total}
+use Rattle.show.proofs.Terms.{◌≡◌, ℕ, ◌+◌, ◌<◌, ◌≤◌, ◌==◌, true, false, cond, IsTrue, Option, Some}
+use Rattle.show.proofs.Terms.{None, is_some, List, [], ◌∷◌, refl, ap, ◌∙◌, arith, All, IfSome}
+use Rattle.show.proofs.Terms.{option_map, list_all, OnSome, option_map_or, nat_cmp, nat_cmp_total}
+use Rattle.show.proofs.Terms.{nat_tests, CueData, Rate, is_channel, is_dimmer, is_sub, is_group}
+use Rattle.show.proofs.Terms.{is_cue_number, is_time, Tables, LevelMap, CueMap, MasterMap, PatchMap}
+use Rattle.show.proofs.Terms.{blank, with_cue, can_open, with_change, opened_in, can_patch}
+use Rattle.show.proofs.Terms.{patched_with, all_patched, IsInRange, IsRateInRange, HasTimes}
+use Rattle.show.proofs.Terms.{rate_of}
 use Rattle.std.specs.FinMap as map
-use Rattle.std.proofs.lemmas.Bool.Decides.{nat_tests}
-use Rattle.show.specs.declared.cue.CueData.{CueData}
-use Rattle.show.specs.declared.rate.Rate.{Rate}
-use Rattle.show.specs.Numbers.{is_channel, is_dimmer, is_sub, is_group, is_cue_number, is_time}
-use Rattle.show.specs.Tables.{Tables, LevelMap, CueMap, MasterMap, PatchMap}
-use Rattle.show.specs.Builders.{blank, with_cue, can_open, with_change, opened_in}
-use Rattle.show.specs.Builders.{can_patch, patched_with, all_patched}
-use Rattle.show.specs.Readers.{IsInRange, IsRateInRange, HasTimes, rate_of}
 use Rattle.show.proofs.Sorted.{and_left, and_right, from_true, to_true}
 use Rattle.show.proofs.Ranges.{keys-insert, keys-changed, keys-remove, key_in, len-changed}
 use Rattle.show.proofs.Ranges.{values-insert, values-remove, values-changed, value_in, none_in}

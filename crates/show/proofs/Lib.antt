@@ -7,3 +7,4 @@ pub mod Entries
 pub mod InRange
 pub mod Ordinals
 mod Rows
+mod Terms

@@ -1,17 +1,9 @@
 -- Sorted entries of dimmers, by the ordinals of their universes.
-use Rattle.std.proofs.Common.{◌≡◌, ℕ, ◌≤◌, ◌<◌, true, false, IsTrue, refl, ap}
-use Rattle.std.proofs.Common.{List, length, get_or, arith}
-use Rattle.std.specs.Prelude.{◌==◌, ◌≢◌, nat_lt}
-use Rattle.std.specs.List.{list_any}
-use Rattle.std.specs.List.Sorted.{IsNonDecreasingBy}
-use Rattle.std.specs.Ordering.{nat_cmp}
-use Rattle.std.specs.declared.cmp.Ordering.TheVariants.{Less}
-use Rattle.std.specs.FinMap.{is_sorted}
-use Rattle.std.proofs.lemmas.Bool.Decides.{nat_tests}
+use Rattle.show.proofs.Terms.{◌≡◌, ℕ, ◌≤◌, ◌<◌, true, false, IsTrue, refl, ap, List, length, get_or}
+use Rattle.show.proofs.Terms.{arith, nat_lt, list_any, IsNonDecreasingBy, nat_cmp, Less, is_sorted}
+use Rattle.show.proofs.Terms.{nat_tests, get_or_default, list_any_at, list_any_none, ordinal_of}
+use Rattle.std.specs.Prelude.{◌==◌, ◌≢◌}
 use Rattle.std.proofs.lemmas.Cmp.{nat_cmp_total}
-use Rattle.std.proofs.lemmas.List.{get_or_default}
-use Rattle.std.proofs.lemmas.List.Folds.{list_any_at, list_any_none}
-use Rattle.show.specs.Readers.{ordinal_of}
 use Rattle.show.proofs.Sorted.{from_true, sorted_at}
 
 ordinal_mono : (a b : ℕ) → a ≤ b → ordinal_of a ≤ ordinal_of b

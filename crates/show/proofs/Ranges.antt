@@ -1,20 +1,12 @@
 -- What holds of each key or of each value of a map stays so under the edits.
-use Rattle.std.proofs.Common.{◌≡◌, ℕ, ◌+◌, ◌≤◌, true, false, cond, not, IsTrue, T, List, [], ◌∷◌}
-use Rattle.std.proofs.Common.{length, Some, None, is_some, refl, sym, subst, ap, ◌∙◌, arith}
-use Rattle.std.specs.Prelude.{All, IfSome, map as map_list}
-use Rattle.std.specs.Option.{option_map_or}
-use Rattle.std.specs.Ordering.{nat_cmp, is_lt, eq_by_cmp}
-use Rattle.std.specs.Cmp.{nat_cmp_total}
+use Rattle.show.proofs.Terms.{◌≡◌, ℕ, ◌+◌, ◌≤◌, true, false, cond, not, IsTrue, T, List, [], ◌∷◌}
+use Rattle.show.proofs.Terms.{length, Some, None, is_some, refl, sym, subst, ap, ◌∙◌, arith, All}
+use Rattle.show.proofs.Terms.{IfSome, option_map_or, nat_cmp, is_lt, eq_by_cmp, nat_cmp_total}
+use Rattle.show.proofs.Terms.{by_order, below_all, Less, Equal, Greater, nat_tests, All-nil}
+use Rattle.show.proofs.Terms.{All-cons, All-head, All-tail, All-weaker, All-filter, tells_apart}
+use Rattle.show.proofs.Terms.{exact_unsigned, is_within, without}
+use Rattle.std.specs.Prelude.{map as map_list}
 use Rattle.std.specs.FinMap as map
-use Rattle.std.specs.FinMap.Entries.{by_order, below_all}
-use Rattle.std.specs.declared.cmp.Ordering.TheVariants.{Less, Equal, Greater}
-use Rattle.std.proofs.lemmas.Bool.Decides.{nat_tests}
-use Rattle.std.proofs.lemmas.List.Elements.{All-nil, All-cons, All-head, All-tail, All-weaker}
-use Rattle.std.proofs.lemmas.List.Elements.{All-filter}
-use Rattle.std.proofs.lemmas.Map.Views.{tells_apart}
-use Rattle.std.proofs.lemmas.Map.Lookups.{exact_unsigned}
-use Rattle.show.specs.Numbers.{is_within}
-use Rattle.show.specs.Place.{without}
 use Rattle.show.proofs.Sorted.{and_left, and_right, to_true, from_sorted-nil}
 use Rattle.show.proofs.Removed.{entries-remove}
 

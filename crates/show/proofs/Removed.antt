@@ -1,14 +1,10 @@
 -- The entries but for one key.
-use Rattle.std.proofs.Common.{◌≡◌, ℕ, zero, suc, Bool, true, false, not, cond, IsTrue, T, List, []}
-use Rattle.std.proofs.Common.{◌∷◌, refl, sym, ap, ◌∙◌, arith, Option, None}
-use Rattle.std.specs.declared.cmp.Ordering.{Ordering}
-use Rattle.std.specs.declared.cmp.Ordering.TheVariants.{Less, Equal, Greater}
-use Rattle.std.specs.List.{remove}
-use Rattle.std.specs.Ordering.{is_lt, is_eq, eq_by_cmp}
-use Rattle.std.specs.Cmp.{IsTotalOrder, alike_right, eq_by_cmp_equiv}
+use Rattle.show.proofs.Terms.{◌≡◌, ℕ, zero, suc, Bool, true, false, not, cond, IsTrue, T, List, []}
+use Rattle.show.proofs.Terms.{◌∷◌, refl, sym, ap, ◌∙◌, arith, Option, None, Ordering, Less, Equal}
+use Rattle.show.proofs.Terms.{Greater, remove, is_lt, is_eq, eq_by_cmp, IsTotalOrder, alike_right}
+use Rattle.show.proofs.Terms.{eq_by_cmp_equiv, below_all, find-where_key, is_sorted-where_key, IsAt}
+use Rattle.show.proofs.Terms.{IsGap, without}
 use Rattle.std.specs.FinMap as map
-use Rattle.std.specs.FinMap.Entries.{below_all, find-where_key, is_sorted-where_key}
-use Rattle.show.specs.Place.{IsAt, IsGap, without}
 use Rattle.show.proofs.Sorted.{turned, and_left, and_right, less, from_true, to_true}
 use Rattle.show.proofs.Sorted.{is_at_tail, is_gap_tail}
 

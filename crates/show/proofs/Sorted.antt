@@ -1,23 +1,15 @@
 -- Entries sorted by their keys: what a search finds, and what an edit at that place is.
-use Rattle.std.proofs.Common.{◌≡◌, ℕ, zero, suc, ◌+◌, ◌-◌, ◌<◌, Bool, true, false, IsTrue, ◌&&◌, T}
-use Rattle.std.proofs.Common.{List, [], ◌∷◌, ◌++◌, length, get_or, set, Some, None}
-use Rattle.std.proofs.Common.{Result, Ok, Err, IfOk, IfErr, refl, sym, ap, subst}
-use Rattle.std.proofs.Common.{◌∙◌, arith, inl, inr}
-use Rattle.std.specs.Prelude.{map, reverse}
-use Rattle.std.specs.declared.cmp.Ordering.{Ordering}
-use Rattle.std.specs.declared.cmp.Ordering.TheVariants.{Less, Equal, Greater}
-use Rattle.std.specs.List.{insert}
-use Rattle.std.specs.List.Sorted.{IsSearchInRange, IsBinarySearchResult, IsNonDecreasingBy}
-use Rattle.std.specs.Ordering.{is_lt, ordering_index, ordering_reverse}
-use Rattle.std.specs.Cmp.{IsTotalOrder}
-use Rattle.std.specs.FinMap.{find, put, is_sorted, from_sorted, get, entries, insert as map_insert}
-use Rattle.std.specs.FinMap.{get-from_sorted, entries-from_sorted, entries-insert, same_entries_map}
-use Rattle.std.specs.FinMap.{empty, empty_of_len, len-entries}
-use Rattle.std.specs.FinMap.Entries.{below_all, is_sorted-put}
-use Rattle.std.proofs.lemmas.Bool.{cases_lt}
-use Rattle.std.proofs.lemmas.List.{reverse-append, map-append}
-use Rattle.std.proofs.lemmas.List.Sorted.{searchable_from_sorted}
-use Rattle.show.specs.Place.{IsAt, IsGap}
+use Rattle.show.proofs.Terms.{◌≡◌, ℕ, zero, suc, ◌+◌, ◌-◌, ◌<◌, Bool, true, false, IsTrue, ◌&&◌, T}
+use Rattle.show.proofs.Terms.{List, [], ◌∷◌, ◌++◌, length, get_or, set, Some, None, Result, Ok, Err}
+use Rattle.show.proofs.Terms.{IfOk, IfErr, refl, sym, ap, subst, ◌∙◌, arith, inl, inr, map, reverse}
+use Rattle.show.proofs.Terms.{Ordering, Less, Equal, Greater, insert, IsSearchInRange}
+use Rattle.show.proofs.Terms.{IsBinarySearchResult, IsNonDecreasingBy, is_lt, ordering_index}
+use Rattle.show.proofs.Terms.{ordering_reverse, IsTotalOrder, find, put, is_sorted, from_sorted}
+use Rattle.show.proofs.Terms.{get, entries, get-from_sorted, entries-from_sorted, entries-insert}
+use Rattle.show.proofs.Terms.{same_entries_map, empty, empty_of_len, len-entries, below_all}
+use Rattle.show.proofs.Terms.{is_sorted-put, cases_lt, reverse-append, map-append}
+use Rattle.show.proofs.Terms.{searchable_from_sorted, IsAt, IsGap}
+use Rattle.std.specs.FinMap.{insert as map_insert}
 
 pub and_left : (a b : Bool) → T (a && b) → T a
 and_left true b h = tt

@@ -1,16 +1,11 @@
 -- A table by the entries that it is seen from: their keys stand for numbers.
-use Rattle.std.proofs.Common.{◌≡◌, ℕ, cond, IsTrue, ◌&&◌, List, []}
-use Rattle.std.proofs.Common.{◌∷◌, length, get_or, set, Option, Some, None, refl, sym, ap, ◌∙◌}
+use Rattle.show.proofs.Terms.{◌≡◌, ℕ, cond, IsTrue, ◌&&◌, List, [], ◌∷◌, length, get_or, set}
+use Rattle.show.proofs.Terms.{Option, Some, None, refl, sym, ap, ◌∙◌, Ordering, Less, Equal}
+use Rattle.show.proofs.Terms.{Greater, nat_cmp, is_lt, eq_by_cmp, nat_cmp_total, below_all}
+use Rattle.show.proofs.Terms.{by_order, length-map, map-id, IsAt, IsGap, IsNumbered}
+use Rattle.show.proofs.Terms.{entries_by_number}
 use Rattle.std.specs.Prelude.{map as map_list}
-use Rattle.std.specs.declared.cmp.Ordering.{Ordering}
-use Rattle.std.specs.declared.cmp.Ordering.TheVariants.{Less, Equal, Greater}
-use Rattle.std.specs.Ordering.{nat_cmp, is_lt, eq_by_cmp}
-use Rattle.std.specs.Cmp.{nat_cmp_total}
 use Rattle.std.specs.FinMap as map
-use Rattle.std.specs.FinMap.Entries.{below_all, by_order}
-use Rattle.std.proofs.lemmas.List.{length-map, map-id}
-use Rattle.show.specs.Place.{IsAt, IsGap}
-use Rattle.show.specs.Keys.{IsNumbered, entries_by_number}
 use Rattle.show.proofs.Sorted.{find_at, find_gap, set_at, sorted_put, entries_are}
 use Rattle.show.proofs.Sorted.{from_sorted-put, from_sorted-nil}
 

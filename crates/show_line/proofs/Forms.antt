@@ -1,21 +1,13 @@
 -- How large the numbers that words spell can be.
-use Rattle.std.proofs.Common.{◌≡◌, ℕ, suc, zero, ◌+◌, ◌*◌, ◌/◌, ◌^◌, ◌<◌, ◌≤◌, Bool, true, false}
-use Rattle.std.proofs.Common.{List, []}
-use Rattle.std.proofs.Common.{◌∷◌}
-use Rattle.std.proofs.Common.{length, IsTrue, refl, subst, arith, rules, Option, Some, None}
-use Rattle.std.specs.Prelude.{nat_le, ◌&&◌, ◌==◌, IfSome, option_map, option_and_then}
-use Rattle.std.specs.Prelude.{if◌then◌else◌}
-use Rattle.std.specs.List.{list_all, list_any, before_first, after_first}
-use Rattle.std.specs.Char.{is_ascii_digit}
-use Rattle.std.specs.Str.Parse.{digits_value}
-use Rattle.std.proofs.Math.Nat.{mul-le-mul_right}
-use Rattle.std.proofs.lemmas.Bool.Decides.{nat_tests}
-use Rattle.std.proofs.lemmas.Str.Parse.{IsNumeralModel, numerals_by_value, digits_value_short}
-use Rattle.ascii_text.specs.Forms.{is_run, digits_of, whole_of, is_point, is_colon, units_of}
-use Rattle.ascii_text.specs.Forms.{fraction_of}
-use Rattle.ascii_text.specs.Forms.{sum_of}
-use Rattle.ascii_text.specs.Forms.{scaled_of, cue_number_of, seconds_of, time_of}
-use Rattle.show.specs.Numbers.{is_cue_number, is_time}
+use Rattle.show_line.proofs.Terms.{◌≡◌, ℕ, suc, zero, ◌+◌, ◌*◌, ◌/◌, ◌^◌, ◌<◌, ◌≤◌, Bool, true}
+use Rattle.show_line.proofs.Terms.{false, List, [], ◌∷◌, length, IsTrue, refl, subst, arith, rules}
+use Rattle.show_line.proofs.Terms.{Option, Some, None, nat_le, ◌&&◌, ◌==◌, IfSome, option_map}
+use Rattle.show_line.proofs.Terms.{option_and_then, if◌then◌else◌, list_all, list_any, before_first}
+use Rattle.show_line.proofs.Terms.{after_first, is_ascii_digit, digits_value, mul-le-mul_right}
+use Rattle.show_line.proofs.Terms.{nat_tests, IsNumeralModel, numerals_by_value, digits_value_short}
+use Rattle.show_line.proofs.Terms.{is_run, digits_of, whole_of, is_point, is_colon, units_of}
+use Rattle.show_line.proofs.Terms.{fraction_of, sum_of, scaled_of, cue_number_of, seconds_of}
+use Rattle.show_line.proofs.Terms.{time_of, is_cue_number, is_time}
 
 -- the number, if there is one, is at most this
 abbrev IsUpTo : ℕ → Option ℕ → Type 0

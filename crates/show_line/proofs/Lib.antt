@@ -4,3 +4,4 @@ pub mod Forms
 pub mod Ranged
 pub mod Wider
 mod Rows
+mod Terms

@@ -1,12 +1,7 @@
 -- The lowest of several faults.
-use Rattle.std.proofs.Common.{◌≡◌, ℕ, true, false, refl, sym, arith, List, Option, Some, None}
-use Rattle.std.specs.Prelude.{nat_lt, if◌then◌else◌, Result, Ok, Err, MatchResult}
-use Rattle.std.specs.Result.{result_err}
-use Rattle.std.proofs.lemmas.Bool.Decides.{nat_tests}
-use Rattle.std.proofs.lemmas.Option.{none-some}
-use Rattle.ascii_text.specs.Forms.{number_of}
-use Rattle.show_line.specs.declared.fault.LineFault.{LineFault}
-use Rattle.show_line.specs.Faults.{rank_of, lower}
+use Rattle.show_line.proofs.Terms.{◌≡◌, ℕ, true, false, refl, sym, arith, List, Option, Some, None}
+use Rattle.show_line.proofs.Terms.{nat_lt, if◌then◌else◌, Result, Ok, Err, MatchResult, result_err}
+use Rattle.show_line.proofs.Terms.{nat_tests, none-some, number_of, LineFault, rank_of, lower}
 
 lower_two : (x y : LineFault) → lower (lower (Some x) (Some y)) None ≡ lower (Some x) (Some y)
 lower_two x y = grind (arith, nat_tests)

@@ -1,39 +1,23 @@
 -- What a line says has its numbers in their ranges and within the limits under which it was read,
 -- and speaks of the record that owns it.
-use Rattle.std.proofs.Common.{◌≡◌, ℕ, ◌≤◌, Bool, true, false, List, [], ◌∷◌, IsTrue, All, refl, sym}
-use Rattle.std.proofs.Common.{arith, Option, Some, None}
-use Rattle.std.specs.Prelude.{unwrap_or, is_some, codes, if◌then◌else◌}
-use Rattle.std.specs.Option.{option_map_or}
-use Rattle.std.proofs.lemmas.Bool.Decides.{nat_tests}
-use Rattle.std.proofs.lemmas.List.Elements.{All-nil, All-cons, All-weaker}
-use Rattle.std.proofs.lemmas.Option.{none-some}
-use Rattle.ascii_text.specs.Forms.{same_word, number_of, level_of, time_of, cue_number_of}
-use Rattle.show.specs.Numbers.{is_within, is_time}
-use Rattle.show_line.specs.declared.fault.LineFault.{LineFault}
-use Rattle.show_line.specs.declared.fault.LineFault.TheVariants.{BadNumber, BadTime}
+use Rattle.show_line.proofs.Terms.{◌≡◌, ℕ, ◌≤◌, Bool, true, false, List, [], ◌∷◌, IsTrue, All, refl}
+use Rattle.show_line.proofs.Terms.{sym, arith, Option, Some, None, unwrap_or, is_some, codes}
+use Rattle.show_line.proofs.Terms.{if◌then◌else◌, option_map_or, nat_tests, All-nil, All-cons}
+use Rattle.show_line.proofs.Terms.{All-weaker, none-some, same_word, number_of, level_of, time_of}
+use Rattle.show_line.proofs.Terms.{cue_number_of, is_within, is_time, LineFault, BadNumber, BadTime}
+use Rattle.show_line.proofs.Terms.{Keyword, Clear, Ident, Cue, Group, Sub, Patch, Chan, Up, Down}
+use Rattle.show_line.proofs.Terms.{FollowOn, Remark, Cleared, Record, Statement, Opens, Levels}
+use Rattle.show_line.proofs.Terms.{Rises, Falls, Follows, Patches, Clears, Quiet, Skipped, Faulty}
+use Rattle.show_line.proofs.Terms.{Triple, value_for, may_own, lower, unless, number_fault}
+use Rattle.show_line.proofs.Terms.{cue_fault, page_fault, time_fault, Limits, desk_limits}
+use Rattle.show_line.proofs.Terms.{pair_fault, pairs_in, triple_fault, triples_in, unless_faulty}
+use Rattle.show_line.proofs.Terms.{is_page_1, record_said, cue_named, group_named, sub_named}
+use Rattle.show_line.proofs.Terms.{patch_said, rate_fault, rate_in, ident_said, cleared_names}
+use Rattle.show_line.proofs.Terms.{follow_fault, follow_in, clear_said, statement_in}
+use Rattle.show_line.proofs.Terms.{IsRecordInRange, IsPairInRange, IsTripleInRange, IsRateInRange}
+use Rattle.show_line.proofs.Terms.{IsSound}
 use Rattle.show_line.specs.declared.fault.LineFault.TheVariants.{Ident as BadIdent}
-use Rattle.show_line.specs.declared.keyword.Keyword.{Keyword}
-use Rattle.show_line.specs.declared.keyword.Keyword.TheVariants.{Clear, Ident, Cue, Group, Sub}
-use Rattle.show_line.specs.declared.keyword.Keyword.TheVariants.{Patch, Chan, Up, Down, FollowOn}
-use Rattle.show_line.specs.declared.keyword.Keyword.TheVariants.{Remark}
-use Rattle.show_line.specs.declared.statement.Cleared.{Cleared}
-use Rattle.show_line.specs.declared.statement.Record.{Record}
 use Rattle.show_line.specs.declared.statement.Record.TheVariants as record_of
-use Rattle.show_line.specs.declared.statement.Statement.{Statement}
-use Rattle.show_line.specs.declared.statement.Statement.TheVariants.{Opens, Levels, Rises, Falls}
-use Rattle.show_line.specs.declared.statement.Statement.TheVariants.{Follows, Patches}
-use Rattle.show_line.specs.declared.statement.Statement.TheVariants.{Clears, Quiet}
-use Rattle.show_line.specs.declared.statement.Statement.TheVariants.{Skipped, Faulty}
-use Rattle.show_line.specs.declared.triples.Triple.{Triple}
-use Rattle.show_line.specs.Keywords.{value_for, may_own}
-use Rattle.show_line.specs.Faults.{lower, unless, number_fault, cue_fault, page_fault, time_fault}
-use Rattle.show_line.specs.Pairs.{Limits, desk_limits, pair_fault, pairs_in, triple_fault}
-use Rattle.show_line.specs.Pairs.{triples_in}
-use Rattle.show_line.specs.Said.{unless_faulty, is_page_1, record_said, cue_named, group_named}
-use Rattle.show_line.specs.Said.{sub_named, patch_said, rate_fault, rate_in, ident_said}
-use Rattle.show_line.specs.Said.{cleared_names, follow_fault, follow_in, clear_said, statement_in}
-use Rattle.show_line.specs.Sound.{IsRecordInRange, IsRateInRange, IsPairInRange, IsTripleInRange}
-use Rattle.show_line.specs.Sound.{IsSound}
 use Rattle.show_line.proofs.Lowest.{lower_both}
 use Rattle.show_line.proofs.Ranges.{number_in_range, next_pair, next_triple}
 use Rattle.show_line.proofs.Forms.{time_small, cue_number_small}

@@ -1,13 +1,8 @@
 -- What the words of a line without a fault are.
-use Rattle.std.proofs.Common.{◌≡◌, ℕ, ◌≤◌, List, ◌∷◌, sym, arith, Option, Some, None}
-use Rattle.std.specs.Prelude.{unwrap_or}
-use Rattle.std.proofs.lemmas.Bool.Decides.{nat_tests}
-use Rattle.std.proofs.lemmas.Grind.{common_steps}
-use Rattle.std.proofs.lemmas.Option.{none-some}
-use Rattle.ascii_text.specs.Forms.{number_of}
-use Rattle.show_line.specs.declared.fault.LineFault.TheVariants.{BadNumber}
-use Rattle.show_line.specs.Faults.{range_fault, number_fault, level_fault}
-use Rattle.show_line.specs.Pairs.{Limits, pair_fault, triple_fault}
+use Rattle.show_line.proofs.Terms.{◌≡◌, ℕ, ◌≤◌, List, ◌∷◌, sym, arith, Option, Some, None}
+use Rattle.show_line.proofs.Terms.{unwrap_or, nat_tests, common_steps, none-some, number_of}
+use Rattle.show_line.proofs.Terms.{BadNumber, range_fault, number_fault, level_fault, Limits}
+use Rattle.show_line.proofs.Terms.{pair_fault, triple_fault}
 use Rattle.show_line.proofs.Lowest.{lower_both}
 
 -- a number in its range

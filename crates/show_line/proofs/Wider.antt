@@ -1,26 +1,13 @@
 -- What a line says without a fault, it says under wider limits too.
-use Rattle.std.proofs.Common.{◌≡◌, ℕ, ◌≤◌, Bool, true, false, List, [], ◌∷◌, refl, ap, arith}
-use Rattle.std.proofs.Common.{Option}
-use Rattle.std.proofs.Common.{Some, None}
-use Rattle.std.specs.Prelude.{if◌then◌else◌}
-use Rattle.std.proofs.lemmas.Bool.Decides.{nat_tests}
-use Rattle.std.proofs.lemmas.Grind.{common_steps}
-use Rattle.ascii_text.specs.Forms.{number_of}
-use Rattle.show_line.specs.declared.fault.LineFault.{LineFault}
-use Rattle.show_line.specs.declared.fault.LineFault.TheVariants.{HalfPair, HalfTriple}
-use Rattle.show_line.specs.declared.keyword.Keyword.{Keyword}
-use Rattle.show_line.specs.declared.keyword.Keyword.TheVariants.{Clear, Ident, Cue, Group, Sub}
-use Rattle.show_line.specs.declared.keyword.Keyword.TheVariants.{Patch}
-use Rattle.show_line.specs.declared.keyword.Keyword.TheVariants.{EndData, Setting, Chan, Up, Down}
-use Rattle.show_line.specs.declared.keyword.Keyword.TheVariants.{FollowOn, Remark, Maker, Unknown}
-use Rattle.show_line.specs.declared.statement.Record.{Record}
-use Rattle.show_line.specs.declared.statement.Statement.{Statement}
-use Rattle.show_line.specs.declared.statement.Statement.TheVariants.{Levels, Patches, Skipped}
-use Rattle.show_line.specs.Faults.{range_fault, number_fault, lower, page_fault}
-use Rattle.show_line.specs.Pairs.{Limits, pair_fault, pairs_in, triple_fault, triples_in}
-use Rattle.show_line.specs.Said.{unless_faulty, is_page_1, patch_said, levels_said, owned_said}
-use Rattle.show_line.specs.Said.{statement_in}
-use Rattle.show_line.specs.Sound.{IsFaultless}
+use Rattle.show_line.proofs.Terms.{◌≡◌, ℕ, ◌≤◌, Bool, true, false, List, [], ◌∷◌, refl, ap, arith}
+use Rattle.show_line.proofs.Terms.{Option, Some, None, if◌then◌else◌, nat_tests, common_steps}
+use Rattle.show_line.proofs.Terms.{number_of, LineFault, HalfPair, HalfTriple, Keyword, Clear}
+use Rattle.show_line.proofs.Terms.{Ident, Cue, Group, Sub, Patch, EndData, Setting, Chan, Up, Down}
+use Rattle.show_line.proofs.Terms.{FollowOn, Remark, Maker, Unknown, Record, Statement, Levels}
+use Rattle.show_line.proofs.Terms.{Patches, Skipped, range_fault, number_fault, lower, page_fault}
+use Rattle.show_line.proofs.Terms.{Limits, pair_fault, pairs_in, triple_fault, triples_in}
+use Rattle.show_line.proofs.Terms.{unless_faulty, is_page_1, patch_said, levels_said, owned_said}
+use Rattle.show_line.proofs.Terms.{statement_in, IsFaultless}
 use Rattle.show_line.proofs.Lowest.{lower_some}
 use Rattle.show_line.proofs.Ranges.{next_pair, next_triple}
 

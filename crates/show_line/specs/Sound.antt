@@ -1,7 +1,7 @@
 -- What holds of every statement that a line says: its numbers are in their ranges.
 use Rattle.std.specs.Prelude.{ℕ, IsTrue, All}
-use Rattle.show.specs.declared.rate.Rate.{Rate}
 use Rattle.show.specs.Numbers.{is_cue_number, is_group, is_sub, is_channel, is_time}
+use Rattle.show.specs.Readers.{IsRateInRange}
 use Rattle.show.specs.Builders.{can_patch}
 use Rattle.show_line.specs.declared.statement.Record.{Record}
 use Rattle.show_line.specs.declared.statement.Record.TheVariants as record_of
@@ -16,10 +16,6 @@ abbrev pub IsRecordInRange : Record → Type 0
 IsRecordInRange (record_of.Cue n) = IsTrue (is_cue_number n)
 IsRecordInRange (record_of.Group n) = IsTrue (is_group n)
 IsRecordInRange (record_of.Sub n) = IsTrue (is_sub n)
-
--- each part of a rate is a time
-abbrev pub IsRateInRange : Rate → Type 0
-IsRateInRange rate = IsTrue (is_time rate.time) × IsTrue (is_time rate.delay)
 
 -- the channel of a pair is in its range
 abbrev pub IsPairInRange : ℕ × ℕ → Type 0

@@ -10,3 +10,4 @@ pub mod Nights
 pub mod Records
 pub mod OldShows
 mod Rows
+mod Terms

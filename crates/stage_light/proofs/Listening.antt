@@ -1,17 +1,11 @@
 -- What `listen` prints of what a play sent.
-use Rattle.std.proofs.Common.{◌≡◌, ◌≤◌, ℕ, ◌++◌, refl, ap, sym, ◌∙◌, arith, List, [], ◌∷◌, map}
-use Rattle.std.specs.Prelude.{reverse}
-use Rattle.std.proofs.lemmas.List.{append_cancel_left, reverse-reverse}
-use Rattle.devices.specs.Tape.{Tape, with_more}
-use Rattle.sacn_receiver.specs.Arrivals.{Arrival, heard_all, last_arrival, NeverFall}
-use Rattle.sacn_receiver.specs.Shown.{shown_slots}
+use Rattle.stage_light.proofs.Terms.{◌≡◌, ◌≤◌, ℕ, ◌++◌, refl, ap, sym, ◌∙◌, arith, List, [], ◌∷◌}
+use Rattle.stage_light.proofs.Terms.{map, reverse, append_cancel_left, reverse-reverse, Tape}
+use Rattle.stage_light.proofs.Terms.{with_more, Arrival, heard_all, last_arrival, NeverFall}
+use Rattle.stage_light.proofs.Terms.{shown_slots, slots_line, sends_of_run, listen_text, replies}
+use Rattle.stage_light.proofs.Terms.{history_at_0, Play, IsPlay, arrivals_in, datagrams_in}
+use Rattle.stage_light.proofs.Terms.{ListenLaw, PlayToListen}
 use Rattle.sacn_receiver.specs.Taking.{history_after as heard_one}
-use Rattle.sacn_receiver.specs.Replies.{slots_line}
-use Rattle.cmd_play.specs.Run.{sends_of_run}
-use Rattle.cmd_listen.specs.Listening.{listen_text, replies, history_at_0}
-use Rattle.stage_light.specs.Plays.{Play, IsPlay}
-use Rattle.stage_light.specs.Traffic.{arrivals_in, datagrams_in}
-use Rattle.stage_light.specs.Programs.{ListenLaw, PlayToListen}
 use Rattle.stage_light.proofs.Showing.{headline}
 
 -- what never falls and is over at moment 0 was all of it at moment 0

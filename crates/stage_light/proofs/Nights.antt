@@ -1,39 +1,21 @@
 -- What a live night has played, and under which history.
-use Rattle.std.proofs.Common.{◌≡◌, ℕ, refl, ap, sym, ◌∙◌, List, [], ◌∷◌, Ok, Err}
-use Rattle.std.proofs.Common.{◌++◌, append-nil, Option, Some, None, Result, inl, inr}
-use Rattle.std.specs.Prelude.{◌-◌, codes, is_none, option_map, if◌then◌else◌}
-use Rattle.std.proofs.lemmas.List.{append_cancel_left, append_cancel_right}
-use Rattle.ascii_text.specs.Text.{words_of}
-use Rattle.console.specs.declared.call.Call.{Call}
-use Rattle.console.specs.declared.call.Call.TheVariants.{Order, Tick}
-use Rattle.console.specs.declared.reading.Reading.TheVariants.{At}
-use Rattle.console.specs.Spelling.{act_of, command_of, reading_of}
+use Rattle.stage_light.proofs.Terms.{◌≡◌, ℕ, refl, ap, sym, ◌∙◌, List, [], ◌∷◌, Ok, Err, ◌++◌}
+use Rattle.stage_light.proofs.Terms.{append-nil, Option, Some, None, Result, inl, inr, codes}
+use Rattle.stage_light.proofs.Terms.{is_none, if◌then◌else◌, append_cancel_left}
+use Rattle.stage_light.proofs.Terms.{append_cancel_right, words_of, Call, Order, Tick, At, act_of}
+use Rattle.stage_light.proofs.Terms.{command_of, reading_of, BoothState, RunFault, LivedOn, Lives}
+use Rattle.stage_light.proofs.Terms.{Trace, answers_since, trace_of, history_joined, history_since}
+use Rattle.stage_light.proofs.Terms.{history_of, sends_of_run, acts_after, acts_by, Send, Refused}
+use Rattle.stage_light.proofs.Terms.{Command, End, Master, latest_frame, Act, order, refusal}
+use Rattle.stage_light.proofs.Terms.{Tables, without_keys, accepted_acts, Answer, Happening}
+use Rattle.stage_light.proofs.Terms.{answer_to, answers, behind_moment, lines_given, with_given}
+use Rattle.stage_light.proofs.Terms.{recall_of, spelled, recalled_lines, IsPlay, Play, play_history}
+use Rattle.stage_light.proofs.Terms.{IsNight, NightHeadline, NightsArePlays, NightsAreTyped}
+use Rattle.stage_light.proofs.Terms.{RestartHeadline, new_play, play_on}
+use Rattle.std.specs.Prelude.{◌-◌, option_map}
 use Rattle.cmd_faults.specs.declared.fault.RunFault.TheVariants as run
-use Rattle.cmd_live.specs.Booth.{BoothState}
-use Rattle.cmd_faults.specs.declared.fault.RunFault.{RunFault}
-use Rattle.cmd_live.specs.Night.{LivedOn, Lives, Trace, answers_since, trace_of}
-use Rattle.cmd_live.proofs.Living.{history_joined, history_since}
-use Rattle.cmd_play.specs.Run.{history_of, sends_of_run, acts_after, acts_by}
-use Rattle.devices.specs.Send.{Send}
-use Rattle.desk.specs.declared.answer.Refused.{Refused}
-use Rattle.desk.specs.declared.command.Command.{Command}
-use Rattle.desk.specs.declared.command.Command.TheVariants.{End, Master}
-use Rattle.desk.specs.Meaning.{latest_frame}
-use Rattle.desk.specs.Played.{Act, order, refusal}
-use Rattle.show.specs.Tables.{Tables}
-use Rattle.live_input.specs.Keys.{without_keys}
 use Rattle.live_input.specs.Laws as live
-use Rattle.live_input.specs.Laws.{accepted_acts}
 use Rattle.live_input.specs.Night as answer
-use Rattle.live_input.specs.Night.{Answer, Happening, answer_to, answers, behind_moment}
-use Rattle.live_input.specs.Night.{lines_given}
-use Rattle.live_input.specs.Night.{with_given}
-use Rattle.live_input.specs.Recall.{recall_of}
-use Rattle.live_input.proofs.Fine.{spelled}
-use Rattle.live_input.proofs.Recalling.{recalled_lines}
-use Rattle.stage_light.specs.Plays.{IsPlay, Play, play_history}
-use Rattle.stage_light.specs.Programs.{IsNight, NightHeadline, NightsArePlays, NightsAreTyped}
-use Rattle.stage_light.specs.Restarts.{RestartHeadline, new_play, play_on}
 use Rattle.stage_light.proofs.Restarting.{breaks_plays, plays_go_on}
 use Rattle.stage_light.proofs.Showing.{headline}
 

@@ -1,25 +1,14 @@
 -- A show of an old desk has dimmers of eight universes alone.
-use Rattle.std.proofs.Common.{◌≡◌, ℕ, ◌+◌, ◌<◌, ◌≤◌, true, false, refl, ap, sym, ◌∙◌, arith, List}
-use Rattle.std.proofs.Common.{length, get_or, nat_eq, Option, Some, None, is_some}
-use Rattle.std.specs.Prelude.{IfSome, filter, map}
+use Rattle.stage_light.proofs.Terms.{◌≡◌, ℕ, ◌+◌, ◌<◌, ◌≤◌, true, false, refl, ap, sym, ◌∙◌, arith}
+use Rattle.stage_light.proofs.Terms.{List, length, get_or, Option, Some, None, is_some, IfSome}
+use Rattle.stage_light.proofs.Terms.{filter, range_with_len, nat_cmp, eq_by_cmp, nat_tests}
+use Rattle.stage_light.proofs.Terms.{get_or-map, length-map, list_any_at, list_any_none, frame}
+use Rattle.stage_light.proofs.Terms.{universe_numbers, same_key, has_dimmer_in, ordinal_of}
+use Rattle.stage_light.proofs.Terms.{PatchMap, Tables, desk_limits, Dimmer, text_fault, IsShowOf}
+use Rattle.stage_light.proofs.Terms.{statements_of, reads_alike, same_show, MeanAlike, old_limits}
+use Rattle.std.proofs.Common.{nat_eq}
+use Rattle.std.specs.Prelude.{map}
 use Rattle.std.specs.FinMap as maps
-use Rattle.std.specs.List.{range_with_len}
-use Rattle.std.specs.Ordering.{nat_cmp, eq_by_cmp}
-use Rattle.std.proofs.lemmas.Bool.Decides.{nat_tests}
-use Rattle.std.proofs.lemmas.List.{get_or-map, length-map}
-use Rattle.std.proofs.lemmas.List.Folds.{list_any_at, list_any_none}
-use Rattle.desk.specs.Meaning.{frame, universe_numbers}
-use Rattle.patch.proofs.Frames.{same_key}
-use Rattle.show.specs.Readers.{has_dimmer_in, ordinal_of}
-use Rattle.show.specs.Tables.{PatchMap, Tables}
-use Rattle.show_line.specs.Said.{desk_limits}
-use Rattle.show_reader.specs.Keys.{Dimmer}
-use Rattle.show_reader.specs.Reading.{text_fault}
-use Rattle.show_reader.specs.Shows.{IsShowOf}
-use Rattle.show_reader.specs.Text.{statements_of}
-use Rattle.show_reader.proofs.Limits.{reads_alike}
-use Rattle.show_reader.proofs.OneShow.{same_show}
-use Rattle.stage_light.specs.OldShows.{MeanAlike, old_limits}
 
 -- what holds of an answer holds where there is one
 there : {X : Type 0} (o : Option X) (P : X → Type 0) (n : ℕ)

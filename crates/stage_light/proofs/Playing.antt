@@ -1,19 +1,12 @@
 -- What `play` says of its lines and its link is a play.
-use Rattle.std.proofs.Common.{ℕ, refl, ap, ◌∙◌, List, ◌∷◌, ◌++◌, append_assoc, subst, sym}
-use Rattle.std.proofs.Common.{inl, inr, Ok, Err}
-use Rattle.devices.specs.Send.{Send}
-use Rattle.devices.specs.Tape.{Tape}
-use Rattle.console.specs.Offering.{AreOffered}
-use Rattle.console.specs.Streams.{Production}
-use Rattle.console.specs.Spelling.{reading_of}
+use Rattle.stage_light.proofs.Terms.{ℕ, refl, ap, ◌∙◌, List, ◌∷◌, ◌++◌, append_assoc, subst, sym}
+use Rattle.stage_light.proofs.Terms.{inl, inr, Ok, Err, Send, Tape, AreOffered, Production}
+use Rattle.stage_light.proofs.Terms.{reading_of, PlayFault, Cut, PlayEndsEarly, CarriedLine}
+use Rattle.stage_light.proofs.Terms.{Emission, Ran, dues_after, history_of, sends_of_run}
+use Rattle.stage_light.proofs.Terms.{PlayLeaves, HasPlayed, RunsArePlays, DryRunsArePlays}
+use Rattle.stage_light.proofs.Terms.{PlaysArePlays}
 use Rattle.cmd_faults.specs.declared.fault.RunFault.TheVariants as fault
 use Rattle.cmd_play.specs.declared.fault.PlayFault.TheVariants as early
-use Rattle.cmd_play.specs.declared.fault.PlayFault.{PlayFault}
-use Rattle.ascii_text.specs.Lines.{Cut}
-use Rattle.cmd_play.specs.Play.{PlayEndsEarly}
-use Rattle.cmd_play.specs.Run.{CarriedLine, Emission, Ran, dues_after, history_of, sends_of_run}
-use Rattle.cmd_play.specs.Stage.{PlayLeaves}
-use Rattle.stage_light.specs.Programs.{HasPlayed, RunsArePlays, DryRunsArePlays, PlaysArePlays}
 
 pub runs_plays : RunsArePlays
 runs_plays p lines before after lost ran = record {

@@ -1,13 +1,8 @@
 -- The window of receipts is that of the deliveries that they are, as a rehearsal has it.
-use Rattle.std.proofs.Common.{◌≡◌, ℕ, suc, refl, ap, sym, arith, List, [], ◌∷◌, map, length}
-use Rattle.std.proofs.Common.{◌∙◌}
-use Rattle.std.specs.Prelude.{max}
-use Rattle.sacn_source.specs.Stream.{Packet}
+use Rattle.stage_light.proofs.Terms.{◌≡◌, ℕ, suc, refl, ap, sym, arith, List, [], ◌∷◌, map, length}
+use Rattle.stage_light.proofs.Terms.{◌∙◌, max, Packet, Delivery, IsFreshIn, Receipt, newest_of}
+use Rattle.stage_light.proofs.Terms.{IsInWindow, arrival_of_newest, IsFresh, is_silent}
 use Rattle.rehearsal.specs.Delivery as wire
-use Rattle.rehearsal.specs.Delivery.{Delivery}
-use Rattle.rehearsal.specs.Laws.{IsFreshIn}
-use Rattle.stage_light.specs.Traffic.{Receipt, newest_of, IsInWindow, arrival_of_newest, IsFresh}
-use Rattle.stage_light.specs.Traffic.{is_silent}
 use Rattle.stage_light.proofs.Sources as sources
 
 abbrev pub receipt : Delivery → Receipt

@@ -1,12 +1,8 @@
 -- A text of lines that a live night gave is taken up.
-use Rattle.std.proofs.Common.{◌≡◌, ℕ, ap, List, [], ◌∷◌, ◌++◌, append_assoc, fold, refl}
-use Rattle.std.specs.Prelude.{◌==◌}
-use Rattle.std.proofs.lemmas.Bool.{cond_both}
-use Rattle.std.proofs.lemmas.List.Sums.{fold-append}
-use Rattle.ascii_text.specs.Lines.{Cut, cut_of, with_byte}
-use Rattle.live_input.specs.Recall.{AreRecalled, IsRecalled, recall_of}
-use Rattle.live_input.proofs.Records.{records_recalled}
-use Rattle.stage_light.specs.Restarts.{RecordsAreTakenUp}
+use Rattle.stage_light.proofs.Terms.{◌≡◌, ℕ, ap, List, [], ◌∷◌, ◌++◌, append_assoc, fold, refl}
+use Rattle.stage_light.proofs.Terms.{◌==◌, cond_both, fold-append, Cut, cut_of, with_byte}
+use Rattle.stage_light.proofs.Terms.{AreRecalled, IsRecalled, recall_of, records_recalled}
+use Rattle.stage_light.proofs.Terms.{RecordsAreTakenUp}
 
 -- the lines in front of a record are one
 older_recalled : (later older : List (List ℕ)) → AreRecalled (later ++ older) → AreRecalled older

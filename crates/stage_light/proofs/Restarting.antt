@@ -1,46 +1,21 @@
 -- Plays that go on behind plays, and what a process that broke off did not come to.
-use Rattle.std.proofs.Common.{◌≡◌, ◌≤◌, ◌<◌, ℕ, suc, zero, true, refl, ap, sym, ◌∙◌}
-use Rattle.std.proofs.Common.{arith, inl, inr, List, [], ◌∷◌, ◌++◌, length, append-nil}
-use Rattle.std.proofs.Common.{append_assoc}
-use Rattle.std.proofs.Common.{Option, Some, None, map, drop, take-append-drop, subst}
-use Rattle.std.specs.Prelude.{nat_eq, IfSome}
-use Rattle.std.specs.List.{AllPairs, list_any}
-use Rattle.std.specs.Option.{option_to_list}
-use Rattle.std.proofs.lemmas.Bool.{eq-eqb}
-use Rattle.std.proofs.lemmas.Bool.Decides.{nat_tests}
-use Rattle.std.proofs.lemmas.List.{drop-map, get_or-drop, length-drop}
-use Rattle.std.proofs.lemmas.List.Elements.{All-contains}
-use Rattle.std.proofs.lemmas.List.Kept.{AllPairs-from_increasing}
-use Rattle.devices.specs.Send.{Send}
-use Rattle.patch.specs.Frame.{is_universe}
-use Rattle.desk.specs.declared.answer.Refused.{Refused}
-use Rattle.desk.specs.Played.{Act, refusal}
-use Rattle.desk.proofs.Universes.{numbers_in, numbers_rise}
-use Rattle.sacn_source.specs.Identity.{Identity}
-use Rattle.sacn_source.specs.Stream.{Packet}
-use Rattle.sacn_source.specs.declared.offered.Offered.{Offered}
-use Rattle.sacn_source.specs.declared.offered.Offered.TheVariants.{Quiet}
-use Rattle.sacn_source.specs.Offering.{answer_of}
-use Rattle.sacn_source.proofs.Streams.{HoldsFull}
-use Rattle.sacn_receiver.proofs.Members.{In, by_test}
-use Rattle.console.specs.Offering.{AreOffered, none, quiet, sent}
-use Rattle.console.specs.Streams.{Due, Production, due_at, dues_at, universes_of}
+use Rattle.stage_light.proofs.Terms.{◌≡◌, ◌≤◌, ◌<◌, ℕ, suc, zero, true, refl, ap, sym, ◌∙◌, arith}
+use Rattle.stage_light.proofs.Terms.{inl, inr, List, [], ◌∷◌, ◌++◌, length, append-nil}
+use Rattle.stage_light.proofs.Terms.{append_assoc, Option, Some, None, map, drop, take-append-drop}
+use Rattle.stage_light.proofs.Terms.{subst, nat_eq, IfSome, AllPairs, list_any, option_to_list}
+use Rattle.stage_light.proofs.Terms.{eq-eqb, nat_tests, drop-map, get_or-drop, length-drop}
+use Rattle.stage_light.proofs.Terms.{All-contains, AllPairs-from_increasing, Send, is_universe}
+use Rattle.stage_light.proofs.Terms.{Refused, Act, refusal, numbers_in, numbers_rise, Identity}
+use Rattle.stage_light.proofs.Terms.{Packet, Offered, Quiet, answer_of, HoldsFull, In, by_test}
+use Rattle.stage_light.proofs.Terms.{AreOffered, none, quiet, sent, Due, Production, due_at}
+use Rattle.stage_light.proofs.Terms.{dues_at, universes_of, Call, Order, Tick, Reading, At, Blank}
+use Rattle.stage_light.proofs.Terms.{Malformed, act_of, reading_of, history_joined, CarriedLine}
+use Rattle.stage_light.proofs.Terms.{IsRun, IsRunFrom, dues_after, dues_by, history_from}
+use Rattle.stage_light.proofs.Terms.{history_of, lines_of_run, sends_of_run, packet_bytes}
+use Rattle.stage_light.proofs.Terms.{packet_run, IsConsole, plays, sent_due, is_data, played_in}
+use Rattle.stage_light.proofs.Terms.{IsPlay, play_history, AreFew, BreaksArePlays, PlaysGoOn}
+use Rattle.stage_light.proofs.Terms.{play_on}
 use Rattle.console.proofs.Streams as console
-use Rattle.console.specs.declared.call.Call.{Call}
-use Rattle.console.specs.declared.call.Call.TheVariants.{Order, Tick}
-use Rattle.console.specs.declared.reading.Reading.{Reading}
-use Rattle.console.specs.declared.reading.Reading.TheVariants.{At, Blank, Malformed}
-use Rattle.console.specs.Spelling.{act_of, reading_of}
-use Rattle.cmd_live.proofs.Living.{history_joined}
-use Rattle.cmd_play.specs.Run.{CarriedLine, IsRun, IsRunFrom, dues_after, dues_by, history_from}
-use Rattle.cmd_play.specs.Run.{history_of, lines_of_run, sends_of_run}
-use Rattle.rehearsal.specs.Datagrams.{packet_bytes}
-use Rattle.rehearsal.specs.Sends.{packet_run}
-use Rattle.rehearsal.specs.World.{IsConsole, plays}
-use Rattle.rehearsal.proofs.Linked.{sent_due}
-use Rattle.rehearsal.proofs.Wire.{is_data, played_in}
-use Rattle.stage_light.specs.Plays.{IsPlay, play_history}
-use Rattle.stage_light.specs.Restarts.{AreFew, BreaksArePlays, PlaysGoOn, play_on}
 
 -- ---- a run behind a play
 

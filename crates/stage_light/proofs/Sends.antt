@@ -1,40 +1,21 @@
 -- What a play's link was offered for a universe: its stream, packet by packet.
-use Rattle.std.proofs.Common.{◌≡◌, ℕ, suc, ◌+◌, ◌-◌, ◌%◌, true, not, refl, ap}
-use Rattle.std.proofs.Common.{sym, ◌∙◌, arith, ◌⊎◌, inl, inr, map}
-use Rattle.std.proofs.Common.{List, [], ◌∷◌, ◌++◌, length, append-nil, Option, Some, None, subst}
-use Rattle.std.specs.Prelude.{nat_eq, slice_get, IfSome}
-use Rattle.std.specs.Option.{option_map}
-use Rattle.std.proofs.lemmas.Bool.{eqb-true, cond_both, cond-true}
-use Rattle.std.proofs.lemmas.Option.{slice_get_within, get_or_from_slice_get, same_Some}
-use Rattle.devices.specs.Send.{Send}
-use Rattle.desk.specs.declared.answer.Refused.{Refused}
-use Rattle.desk.specs.Played.{Act, ticks_since_end, refusal}
-use Rattle.sacn_source.specs.declared.offered.Offered.{Offered}
-use Rattle.sacn_source.specs.Identify.{options_of}
-use Rattle.sacn_source.specs.Identity.{Identity}
-use Rattle.sacn_source.specs.Stream.{Packet}
-use Rattle.sacn_source.proofs.Streams.{HoldsFull}
-use Rattle.sacn_receiver.proofs.Members.{by_test, In, in_from_place}
-use Rattle.console.specs.Offering.{AreOffered, none, quiet, sent}
-use Rattle.console.specs.Streams.{Production, due_at, dues_at, universes_of}
+use Rattle.stage_light.proofs.Terms.{◌≡◌, ℕ, suc, ◌+◌, ◌-◌, ◌%◌, true, not, refl, ap, sym, ◌∙◌}
+use Rattle.stage_light.proofs.Terms.{arith, ◌⊎◌, inl, inr, map, List, [], ◌∷◌, ◌++◌, length}
+use Rattle.stage_light.proofs.Terms.{append-nil, Option, Some, None, subst, nat_eq, slice_get}
+use Rattle.stage_light.proofs.Terms.{IfSome, option_map, eqb-true, cond_both, cond-true}
+use Rattle.stage_light.proofs.Terms.{slice_get_within, get_or_from_slice_get, same_Some, Send}
+use Rattle.stage_light.proofs.Terms.{Refused, Act, ticks_since_end, refusal, Offered, options_of}
+use Rattle.stage_light.proofs.Terms.{Identity, Packet, HoldsFull, by_test, In, in_from_place}
+use Rattle.stage_light.proofs.Terms.{AreOffered, none, quiet, sent, Production, due_at, dues_at}
+use Rattle.stage_light.proofs.Terms.{universes_of, latest_frame, Call, Order, Tick, Reading, At}
+use Rattle.stage_light.proofs.Terms.{Blank, Malformed, act_of, reading_of, CarriedLine, IsRun}
+use Rattle.stage_light.proofs.Terms.{history_of, lines_of_run, sends_of_run, acts_by, acts_after}
+use Rattle.stage_light.proofs.Terms.{dues_by, dues_after, packet_bytes, packets_of, is_live, plays}
+use Rattle.stage_light.proofs.Terms.{sent_to, packet_run, IsSendable, source_of, unheard_there}
+use Rattle.stage_light.proofs.Terms.{bytes_are, sent_more, stream_ticked, numbered_at, Play, IsPlay}
+use Rattle.stage_light.proofs.Terms.{play_history, stream_for, sends_for, SendsAreTheStream}
+use Rattle.stage_light.proofs.Terms.{SendsAreAddressed}
 use Rattle.console.proofs.Streams as console
-use Rattle.desk.specs.Meaning.{latest_frame}
-use Rattle.console.specs.declared.call.Call.{Call}
-use Rattle.console.specs.declared.call.Call.TheVariants.{Order, Tick}
-use Rattle.console.specs.declared.reading.Reading.{Reading}
-use Rattle.console.specs.declared.reading.Reading.TheVariants.{At, Blank, Malformed}
-use Rattle.console.specs.Spelling.{act_of, reading_of}
-use Rattle.cmd_play.specs.Run.{CarriedLine, IsRun, history_of, lines_of_run, sends_of_run, acts_by}
-use Rattle.cmd_play.specs.Run.{acts_after, dues_by, dues_after}
-use Rattle.rehearsal.specs.Datagrams.{packet_bytes}
-use Rattle.rehearsal.specs.Happened.{packets_of}
-use Rattle.rehearsal.specs.Laws.{is_live}
-use Rattle.rehearsal.specs.World.{plays}
-use Rattle.rehearsal.specs.Sends.{sent_to, packet_run}
-use Rattle.rehearsal.proofs.Wire.{IsSendable, source_of, unheard_there, bytes_are}
-use Rattle.rehearsal.proofs.Linked.{sent_more, stream_ticked, numbered_at}
-use Rattle.stage_light.specs.Plays.{Play, IsPlay, play_history, stream_for, sends_for}
-use Rattle.stage_light.specs.Laws.{SendsAreTheStream, SendsAreAddressed}
 
 no_sends : {source : Identity} {sends : List Send} {pairs : List (ℕ × Offered)}
     → AreOffered source [] sends pairs → sends ≡ []

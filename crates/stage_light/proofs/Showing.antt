@@ -1,47 +1,25 @@
 -- The laws: what arrived of plays is what sources sent, and so what a receiver shows of them.
-use Rattle.std.proofs.Common.{◌≡◌, ℕ, suc, ◌-◌, ◌<◌, ◌≤◌, Bool, true, false, not, ◌&&◌, refl, ap}
-use Rattle.std.proofs.Common.{sym}
-use Rattle.std.proofs.Common.{◌∙◌, arith, List, [], ◌∷◌, map, length, Option, Some, None}
-use Rattle.std.proofs.Common.{inl, inr, ◌⊎◌, ◌++◌, zero}
-use Rattle.std.specs.Prelude.{nat_eq, slice_get, slice_index, is_some, is_none}
-use Rattle.std.specs.Prelude.{filter}
-use Rattle.std.specs.Option.{option_map}
-use Rattle.std.specs.List.{range_with_len}
-use Rattle.std.proofs.lemmas.Bool.{eq-eqb}
-use Rattle.std.proofs.lemmas.List.{get_or-replicate}
-use Rattle.std.proofs.lemmas.List.FromFn.{get_or-map-range_with_len}
-use Rattle.sacn_packet.specs.Reading.{front_packet}
-use Rattle.sacn_source.specs.Identity.{Identity}
-use Rattle.sacn_source.specs.Stream.{Packet}
-use Rattle.sacn_receiver.specs.declared.answer.Ignored.{Ignored}
-use Rattle.sacn_receiver.specs.Arrivals.{Arrival, heard_all, last_arrival, NeverFall, not_heard}
-use Rattle.sacn_receiver.specs.Arrivals.{packets_heard}
-use Rattle.sacn_receiver.specs.Laws.{accepted_packets}
-use Rattle.sacn_receiver.specs.Shown.{shown_slot, shown_slots, merged_slot}
-use Rattle.sacn_receiver.specs.Taking.{accepted_entry}
-use Rattle.sacn_receiver.proofs.Independent.{heard_accepted}
-use Rattle.sacn_receiver.proofs.Members.{by_test, In, In_map, place_from_in}
-use Rattle.desk.specs.Meaning.{dark}
-use Rattle.desk.proofs.FrameSlots.{latest_full, unpatched_latest}
-use Rattle.console.proofs.Streams.{latest}
+use Rattle.stage_light.proofs.Terms.{◌≡◌, ℕ, suc, ◌-◌, ◌<◌, ◌≤◌, Bool, true, false, not, ◌&&◌, refl}
+use Rattle.stage_light.proofs.Terms.{ap, sym, ◌∙◌, arith, List, [], ◌∷◌, map, length, Option, Some}
+use Rattle.stage_light.proofs.Terms.{None, inl, inr, ◌⊎◌, ◌++◌, zero, nat_eq, slice_get}
+use Rattle.stage_light.proofs.Terms.{slice_index, is_none, filter, option_map, range_with_len}
+use Rattle.stage_light.proofs.Terms.{eq-eqb, get_or-replicate, get_or-map-range_with_len}
+use Rattle.stage_light.proofs.Terms.{front_packet, Identity, Packet, Ignored, Arrival, heard_all}
+use Rattle.stage_light.proofs.Terms.{last_arrival, NeverFall, not_heard, packets_heard}
+use Rattle.stage_light.proofs.Terms.{accepted_packets, shown_slot, shown_slots, merged_slot}
+use Rattle.stage_light.proofs.Terms.{accepted_entry, heard_accepted, by_test, In, In_map}
+use Rattle.stage_light.proofs.Terms.{place_from_in, dark, latest_full, unpatched_latest, latest}
+use Rattle.stage_light.proofs.Terms.{Delivery, is_live, IsFreshIn, heard_here, entry_is, AreInTime}
+use Rattle.stage_light.proofs.Terms.{later_too, own, own_from, same_slots, dark_slots, one_light}
+use Rattle.stage_light.proofs.Terms.{Play, IsPlay, play_at, ArePlays, play_history, stream_for}
+use Rattle.stage_light.proofs.Terms.{sends_for, frame_for, Traffic, TracedArrival, arrivals_in}
+use Rattle.stage_light.proofs.Terms.{IsOrigin, AreOrigins, receipts, with_receipt, receipts_of}
+use Rattle.stage_light.proofs.Terms.{send_number, Receipt, IsFresh, is_silent, Headline, MergeLaw}
+use Rattle.stage_light.proofs.Terms.{light, lights, IsSend, IsSendOf, AreSettled, HearsOne}
+use Rattle.stage_light.proofs.Terms.{HearsAll, UnpatchedSlotsAreZero, SendsStay, sent_to, sent_more}
+use Rattle.stage_light.proofs.Terms.{WindowLaw, SilenceIsDark, IsOneOf}
+use Rattle.std.specs.Prelude.{is_some}
 use Rattle.rehearsal.specs.Delivery as wire
-use Rattle.rehearsal.specs.Delivery.{Delivery}
-use Rattle.rehearsal.specs.Laws.{is_live, IsFreshIn}
-use Rattle.rehearsal.proofs.Wire.{heard_here, entry_is}
-use Rattle.rehearsal.proofs.Came.{AreInTime, later_too, own, own_from}
-use Rattle.rehearsal.proofs.Shown.{same_slots, dark_slots, one_light}
-use Rattle.stage_light.specs.Plays.{Play, IsPlay, play_at, ArePlays, play_history, stream_for}
-use Rattle.stage_light.specs.Plays.{sends_for}
-use Rattle.stage_light.specs.Plays.{frame_for}
-use Rattle.stage_light.specs.Traffic.{Traffic, TracedArrival, arrivals_in, IsOrigin, AreOrigins}
-use Rattle.stage_light.specs.Traffic.{receipts, with_receipt, receipts_of, send_number, Receipt}
-use Rattle.stage_light.specs.Traffic.{IsFresh, is_silent}
-use Rattle.stage_light.specs.Laws.{Headline, MergeLaw, light, lights, IsSend, IsSendOf}
-use Rattle.stage_light.specs.Laws.{AreSettled, HearsOne, HearsAll, UnpatchedSlotsAreZero}
-use Rattle.stage_light.specs.Laws.{SendsStay}
-use Rattle.rehearsal.specs.Sends.{sent_to}
-use Rattle.rehearsal.proofs.Linked.{sent_more}
-use Rattle.stage_light.specs.Laws.{WindowLaw, SilenceIsDark, IsOneOf}
 use Rattle.stage_light.proofs.Sources as sources
 use Rattle.stage_light.proofs.Sources.{entry_at, shown_is, is_loud, near, IsNear}
 use Rattle.stage_light.proofs.Receipts.{receipt, receipts_in, window_same, fresh_same, silent_same}

@@ -1,35 +1,21 @@
 -- What a receiver shows of deliveries from several sources: the core of the laws, which knows no
 -- play and no world.
-use Rattle.std.proofs.Common.{◌≡◌, ℕ, ◌+◌, ◌-◌, ◌<◌, ◌≤◌, Bool, true, false, not, ◌&&◌, ◌⊎◌}
-use Rattle.std.proofs.Common.{refl, ap}
-use Rattle.std.proofs.Common.{arith, sym, subst, inl, inr, ◌∙◌, List, [], ◌∷◌, map, length, get_or}
-use Rattle.std.proofs.Common.{Option, Some, None, suc}
-use Rattle.std.specs.Prelude.{filter, find, if◌then◌else◌, nat_eq, nat_lt, nat_le, slice_get}
-use Rattle.std.specs.Prelude.{IsTrue, slice_index}
-use Rattle.std.specs.Prelude.{Contains, All}
-use Rattle.std.specs.List.{list_all, range_with_len}
-use Rattle.std.specs.Str.{bytes_eq}
-use Rattle.std.proofs.lemmas.Bool.{eqb-true, lt-ltb, le-ltb, ltb-true, and_parts, eq-eqb}
-use Rattle.std.proofs.lemmas.Bool.Decides.{nat_tests}
-use Rattle.std.proofs.lemmas.Cmp.{nat_list_eq_equiv}
-use Rattle.std.proofs.lemmas.List.Elements.{All-map}
-use Rattle.std.proofs.lemmas.List.FromFn.{length-range_with_len, get_or-range_with_len}
-use Rattle.std.proofs.lemmas.List.FromFn.{get_or-map-range_with_len, length-map-range_with_len}
-use Rattle.sacn_source.specs.Identity.{Identity}
-use Rattle.sacn_source.specs.Stream.{Packet}
-use Rattle.sacn_receiver.specs.Laws.{accepted_packets}
-use Rattle.sacn_receiver.specs.Source.{Entry, same_cid, is_there}
-use Rattle.sacn_receiver.specs.Shown.{Light, light_of, merged_slot, shown_slot}
-use Rattle.sacn_receiver.proofs.Independent.{sources_independent}
-use Rattle.sacn_receiver.proofs.Members.{by_test, In, In_mapped, in_from_get_or, in_from_place}
-use Rattle.sacn_receiver.proofs.Members.{place_from_in}
-use Rattle.rehearsal.specs.Delivery.{Delivery, newest_of, IsInWindow}
-use Rattle.rehearsal.specs.Laws.{IsFreshIn}
-use Rattle.rehearsal.proofs.Wire.{entry}
-use Rattle.rehearsal.proofs.Came.{AreInTime, In_accepted, Coming, own}
-use Rattle.rehearsal.proofs.Came.{own_in_time, own_from}
-use Rattle.rehearsal.proofs.Shown.{KeptOne, kept_of, history, lit_by, shown_lit, silent_at}
-use Rattle.rehearsal.proofs.Shown.{fresh_parts, one_light}
+use Rattle.stage_light.proofs.Terms.{◌≡◌, ℕ, ◌+◌, ◌-◌, ◌<◌, ◌≤◌, Bool, true, false, not, ◌&&◌, ◌⊎◌}
+use Rattle.stage_light.proofs.Terms.{refl, ap, arith, sym, subst, inl, inr, ◌∙◌, List, [], ◌∷◌, map}
+use Rattle.stage_light.proofs.Terms.{length, get_or, Option, Some, None, suc, filter, find}
+use Rattle.stage_light.proofs.Terms.{if◌then◌else◌, nat_eq, nat_lt, nat_le, slice_get, IsTrue}
+use Rattle.stage_light.proofs.Terms.{slice_index, Contains, All, list_all, range_with_len, bytes_eq}
+use Rattle.stage_light.proofs.Terms.{eqb-true, lt-ltb, le-ltb, ltb-true, and_parts, eq-eqb}
+use Rattle.stage_light.proofs.Terms.{nat_tests, nat_list_eq_equiv, All-map, length-range_with_len}
+use Rattle.stage_light.proofs.Terms.{get_or-range_with_len, get_or-map-range_with_len}
+use Rattle.stage_light.proofs.Terms.{length-map-range_with_len, Identity, Packet, accepted_packets}
+use Rattle.stage_light.proofs.Terms.{Entry, same_cid, is_there, Light, light_of, merged_slot}
+use Rattle.stage_light.proofs.Terms.{shown_slot, sources_independent, by_test, In, In_mapped}
+use Rattle.stage_light.proofs.Terms.{in_from_get_or, in_from_place, place_from_in, Delivery}
+use Rattle.stage_light.proofs.Terms.{IsFreshIn, entry, AreInTime, In_accepted, Coming, own}
+use Rattle.stage_light.proofs.Terms.{own_in_time, own_from, KeptOne, kept_of, history, lit_by}
+use Rattle.stage_light.proofs.Terms.{shown_lit, silent_at, fresh_parts, one_light}
+use Rattle.rehearsal.specs.Delivery.{newest_of, IsInWindow}
 
 -- none of these came less than 2,500 ms before moment t
 abbrev pub is_silent : ℕ → List Delivery → Bool

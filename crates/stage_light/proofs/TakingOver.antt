@@ -1,20 +1,13 @@
 -- Consoles that mean the same.
-use Rattle.std.proofs.Common.{◌≡◌, ℕ, ◌<◌, ◌≤◌, Bool, refl, ap, arith, sym, inl, inr, ◌∙◌, List}
-use Rattle.std.proofs.Common.{◌-◌}
-use Rattle.std.proofs.Common.{[], ◌∷◌, map, length, get_or}
-use Rattle.std.specs.Prelude.{nat_eq, filter, slice_index}
-use Rattle.std.specs.List.{range_with_len}
-use Rattle.std.proofs.lemmas.Bool.{eq-eqb, cases_lt}
-use Rattle.std.proofs.lemmas.List.FromFn.{length-range_with_len, get_or-range_with_len}
-use Rattle.desk.specs.Meaning.{latest_frame}
-use Rattle.sacn_receiver.specs.Shown.{Light, greatest, leaders, merged_slot}
-use Rattle.sacn_receiver.proofs.Members.{In, In_filter, In_filtered, In_map, In_mapped}
-use Rattle.sacn_receiver.proofs.Members.{in_from_place, place_from_in}
-use Rattle.sacn_receiver.proofs.Same.{In_le}
-use Rattle.stage_light.specs.Laws.{is_lit, light, lights}
-use Rattle.stage_light.specs.Plays.{Play, frame_for, play_history, play_at}
-use Rattle.stage_light.specs.Restarts.{AllMean, IsTwin, MeansOne, TakesOver, TwinsLight}
-use Rattle.stage_light.specs.Traffic.{Traffic}
+use Rattle.stage_light.proofs.Terms.{◌≡◌, ℕ, ◌<◌, ◌≤◌, Bool, refl, ap, arith, sym, inl, inr, ◌∙◌}
+use Rattle.stage_light.proofs.Terms.{List, ◌-◌, [], ◌∷◌, map, length, get_or, nat_eq, filter}
+use Rattle.stage_light.proofs.Terms.{slice_index, range_with_len, eq-eqb, cases_lt}
+use Rattle.stage_light.proofs.Terms.{length-range_with_len, get_or-range_with_len, latest_frame}
+use Rattle.stage_light.proofs.Terms.{Light, greatest, leaders, merged_slot, In, In_filter}
+use Rattle.stage_light.proofs.Terms.{In_filtered, In_map, In_mapped, in_from_place, place_from_in}
+use Rattle.stage_light.proofs.Terms.{In_le, is_lit, light, lights, Play, frame_for, play_history}
+use Rattle.stage_light.proofs.Terms.{play_at, AllMean, IsTwin, MeansOne, TakesOver, TwinsLight}
+use Rattle.stage_light.proofs.Terms.{Traffic}
 use Rattle.stage_light.proofs.Showing.{merge_law}
 
 -- ---- the greatest of what is the same

@@ -1,5 +1,4 @@
-use Rattle.std.proofs.Common.{◌∙◌, arith}
-use Rattle.cmd_listen.specs.Ignored.{count_line}
+use Rattle.cmd_listen.proofs.Terms.{◌∙◌, arith, count_line}
 use Rattle.cmd_listen.proofs.Texts.{count_all, count_more}
 use Rattle.cmd_listen.proofs.ignored.push_counts.Goals as goal
 

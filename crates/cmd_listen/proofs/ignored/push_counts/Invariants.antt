@@ -1,6 +1,4 @@
-use Rattle.std.proofs.Common.{◌≡◌, ◌++◌, take, flat_map}
-use Rattle.std.specs.List.{enumerate_from}
-use Rattle.cmd_listen.specs.Ignored.{count_line}
+use Rattle.cmd_listen.proofs.Terms.{◌≡◌, ◌++◌, take, flat_map, enumerate_from, count_line}
 use Rattle.cmd_listen.proofs.ignored.push_counts.Given as goal
 
 -- the counts so far

@@ -1,6 +1,5 @@
-use Rattle.std.proofs.Common.{◌+◌, ◌≡◌, ◌∷◌, length, sym, ap, ◌∙◌, inr, arith}
-use Rattle.sacn_receiver.specs.Replies.{slots_line}
-use Rattle.cmd_listen.specs.Listening.{history_at_0}
+use Rattle.cmd_listen.proofs.Terms.{◌+◌, ◌≡◌, ◌∷◌, length, sym, ap, ◌∙◌, inr, arith, slots_line}
+use Rattle.cmd_listen.proofs.Terms.{history_at_0}
 use Rattle.cmd_listen.proofs.Histories.{last_moment-history}
 use Rattle.cmd_listen.proofs.Listened.{ends, gave_more, slots_failed, took_all, took_more}
 use Rattle.cmd_listen.proofs.listening.listen.Goals as goal

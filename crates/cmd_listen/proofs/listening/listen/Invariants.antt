@@ -1,4 +1,4 @@
-use Rattle.std.proofs.Common.{◌≡◌}
+use Rattle.cmd_listen.proofs.Terms.{◌≡◌}
 use Rattle.cmd_listen.proofs.Listened.{Heard}
 use Rattle.cmd_listen.proofs.listening.listen.Given as goal
 

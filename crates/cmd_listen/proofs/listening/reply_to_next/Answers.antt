@@ -1,13 +1,8 @@
-use Rattle.std.proofs.Common.{ℕ, ◌+◌, ◌≡◌, List, ◌++◌, length, take, codes, Result, Ok, Err}
-use Rattle.std.proofs.Common.{OnErr, ap, ◌∙◌, inr, refl}
-use Rattle.std.specs.Prelude.{decimal}
-use Rattle.devices.specs.Tape.{with_more}
-use Rattle.sacn_receiver.specs.declared.answer.Taken.{Taken}
-use Rattle.sacn_receiver.specs.declared.answer.Ignored.{Ignored}
-use Rattle.sacn_receiver.specs.Source.{Entry}
-use Rattle.sacn_receiver.specs.Taking.{answer}
-use Rattle.sacn_receiver.specs.Replies.{receiver_reply}
-use Rattle.cmd_listen.specs.Listening.{history_at_0, reply_line, NextFails}
+use Rattle.cmd_listen.proofs.Terms.{ℕ, ◌+◌, ◌≡◌, List, ◌++◌, length, take, codes, Result, ap, ◌∙◌}
+use Rattle.cmd_listen.proofs.Terms.{inr, refl, decimal, with_more, Taken, Ignored, Entry, answer}
+use Rattle.cmd_listen.proofs.Terms.{receiver_reply, history_at_0, reply_line, NextFails}
+use Rattle.std.proofs.Common.{Ok, Err}
+use Rattle.std.proofs.Common.{OnErr}
 use Rattle.cmd_listen.proofs.listening.reply_to_next.Goals as goal
 
 on_err : {T E : Type 0} (P : Type 0) (r : Result T E) → P → OnErr r P

@@ -1,8 +1,6 @@
-use Rattle.std.proofs.Common.{◌∙◌, ◌≤◌, ◌<◌, ap, sym, arith, append-nil, get_or, flat_map}
-use Rattle.std.proofs.Common.{◌++◌, length}
-use Rattle.std.proofs.lemmas.List.{take_all}
-use Rattle.cmd_listen.specs.Stands.{MonitorStands}
-use Rattle.cmd_listen.specs.Universe.{known_after, new_known, told_text}
+use Rattle.cmd_listen.proofs.Terms.{◌∙◌, ◌≤◌, ◌<◌, ap, sym, arith, append-nil, get_or, flat_map}
+use Rattle.cmd_listen.proofs.Terms.{◌++◌, length, take_all, MonitorStands, known_after, new_known}
+use Rattle.cmd_listen.proofs.Terms.{told_text}
 use Rattle.cmd_listen.proofs.Lists.{half_all, half_at, half_more, zip_length}
 use Rattle.cmd_listen.proofs.Texts.{told_more}
 use Rattle.cmd_listen.proofs.monitors.take_all.Goals as goal

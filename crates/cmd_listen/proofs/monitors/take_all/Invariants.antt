@@ -1,7 +1,5 @@
-use Rattle.std.proofs.Common.{◌≡◌, ◌≤◌, ◌++◌, ℕ, List, take, flat_map}
-use Rattle.std.specs.List.{AllZip}
-use Rattle.cmd_listen.specs.Stands.{MonitorStands}
-use Rattle.cmd_listen.specs.Universe.{Knowledge, known_after, told_text}
+use Rattle.cmd_listen.proofs.Terms.{◌≡◌, ◌≤◌, ◌++◌, ℕ, List, take, flat_map, AllZip, MonitorStands}
+use Rattle.cmd_listen.proofs.Terms.{Knowledge, known_after, told_text}
 use Rattle.cmd_listen.proofs.Lists.{HalfWay}
 use Rattle.cmd_listen.proofs.monitors.take_all.Given as goal
 

@@ -1,5 +1,4 @@
-use Rattle.cmd_listen.specs.Stands.{MonitorStands}
-use Rattle.cmd_listen.specs.Universe.{new_known}
+use Rattle.cmd_listen.proofs.Terms.{MonitorStands, new_known}
 use Rattle.cmd_listen.proofs.Lists.{zip_more}
 use Rattle.cmd_listen.proofs.monitors.watch_all.Goals as goal
 

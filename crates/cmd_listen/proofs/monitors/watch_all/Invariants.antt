@@ -1,7 +1,4 @@
-use Rattle.std.proofs.Common.{map, take}
-use Rattle.std.specs.List.{AllZip}
-use Rattle.cmd_listen.specs.Stands.{MonitorStands}
-use Rattle.cmd_listen.specs.Universe.{new_known}
+use Rattle.cmd_listen.proofs.Terms.{map, take, AllZip, MonitorStands, new_known}
 use Rattle.cmd_listen.proofs.monitors.watch_all.Given as goal
 
 -- those so far

@@ -1,5 +1,4 @@
-use Rattle.std.proofs.Common.{◌≡◌, ◌++◌, take, flat_map}
-use Rattle.cmd_listen.specs.Sources.{left_line}
+use Rattle.cmd_listen.proofs.Terms.{◌≡◌, ◌++◌, take, flat_map, left_line}
 use Rattle.cmd_listen.proofs.news.push_left.Given as goal
 
 -- the lines so far

@@ -1,5 +1,4 @@
-use Rattle.std.proofs.Common.{◌≡◌, ◌++◌, take, flat_map}
-use Rattle.cmd_listen.specs.Sources.{news}
+use Rattle.cmd_listen.proofs.Terms.{◌≡◌, ◌++◌, take, flat_map, news}
 use Rattle.cmd_listen.proofs.news.push_news.Given as goal
 
 -- the lines so far

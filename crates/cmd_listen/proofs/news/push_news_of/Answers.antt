@@ -1,4 +1,4 @@
-use Rattle.std.proofs.lemmas.Result.{on_ok_weaker}
+use Rattle.cmd_listen.proofs.Terms.{on_ok_weaker}
 use Rattle.cmd_listen.proofs.Texts.{three}
 use Rattle.cmd_listen.proofs.news.push_news_of.Goals as goal
 

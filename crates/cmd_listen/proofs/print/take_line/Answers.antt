@@ -1,8 +1,5 @@
-use Rattle.std.proofs.Common.{◌≡◌, ◌∙◌, ◌++◌, ap, sym}
-use Rattle.devices.specs.Tape.{with_more}
-use Rattle.cmd_listen.specs.Reading.{at, spelled_in}
-use Rattle.cmd_listen.specs.Spelled.{spelled_of}
-use Rattle.cmd_listen.specs.Watching.{arrived_text, text_spelled}
+use Rattle.cmd_listen.proofs.Terms.{◌≡◌, ◌∙◌, ◌++◌, ap, sym, with_more, at, spelled_in, spelled_of}
+use Rattle.cmd_listen.proofs.Terms.{arrived_text, text_spelled}
 use Rattle.cmd_listen.proofs.print.take_line.Goals as goal
 
 pub returns-in_ok-print-in-At-clause-stands : goal.returns-in_ok-print-in-At-clause-stands

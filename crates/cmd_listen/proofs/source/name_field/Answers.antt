@@ -1,5 +1,4 @@
-use Rattle.std.proofs.Common.{refl}
-use Rattle.std.proofs.lemmas.List.{drop-replicate}
+use Rattle.cmd_listen.proofs.Terms.{refl, drop-replicate}
 use Rattle.cmd_listen.proofs.Lists.{take_min}
 use Rattle.cmd_listen.proofs.source.name_field.Goals as goal
 

@@ -1,6 +1,4 @@
-use Rattle.std.proofs.Common.{◌≡◌, ◌≤◌, length, take}
-use Rattle.std.specs.Prelude.{filter}
-use Rattle.cmd_listen.specs.Sources.{is_here}
+use Rattle.cmd_listen.proofs.Terms.{◌≡◌, ◌≤◌, length, take, filter, is_here}
 use Rattle.cmd_listen.proofs.sources.here.Given as goal
 
 -- those so far

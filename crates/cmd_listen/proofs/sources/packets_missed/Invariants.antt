@@ -1,5 +1,4 @@
-use Rattle.std.proofs.Common.{◌≡◌, drop}
-use Rattle.cmd_listen.specs.Sources.{packets_missed}
+use Rattle.cmd_listen.proofs.Terms.{◌≡◌, drop, packets_missed}
 use Rattle.cmd_listen.proofs.sources.packets_missed.Given as goal
 
 -- what those that are left say is what all say

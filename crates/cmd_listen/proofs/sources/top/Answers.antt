@@ -1,4 +1,4 @@
-use Rattle.std.proofs.Common.{arith}
+use Rattle.cmd_listen.proofs.Terms.{arith}
 use Rattle.cmd_listen.proofs.Tops.{no_source, top_more}
 use Rattle.cmd_listen.proofs.sources.top.Goals as goal
 

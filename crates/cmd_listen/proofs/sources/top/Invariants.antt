@@ -1,5 +1,4 @@
-use Rattle.std.proofs.Common.{◌≡◌, map, take}
-use Rattle.sacn_receiver.specs.Shown.{greatest}
+use Rattle.cmd_listen.proofs.Terms.{◌≡◌, map, take, greatest}
 use Rattle.cmd_listen.proofs.sources.top.Given as goal
 
 -- the greatest so far

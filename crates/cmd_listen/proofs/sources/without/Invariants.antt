@@ -1,6 +1,4 @@
-use Rattle.std.proofs.Common.{◌≡◌, ◌≤◌, length, not, take}
-use Rattle.std.specs.Prelude.{filter}
-use Rattle.cmd_listen.specs.Sources.{is_of}
+use Rattle.cmd_listen.proofs.Terms.{◌≡◌, ◌≤◌, length, not, take, filter, is_of}
 use Rattle.cmd_listen.proofs.sources.without.Given as goal
 
 -- those so far

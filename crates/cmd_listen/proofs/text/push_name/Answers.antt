@@ -1,5 +1,4 @@
-use Rattle.std.proofs.Common.{◌∙◌}
-use Rattle.cmd_listen.specs.Sources.{name_byte}
+use Rattle.cmd_listen.proofs.Terms.{◌∙◌, name_byte}
 use Rattle.cmd_listen.proofs.Texts.{told_more}
 use Rattle.cmd_listen.proofs.text.push_name.Goals as goal
 

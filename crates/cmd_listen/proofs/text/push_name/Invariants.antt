@@ -1,5 +1,4 @@
-use Rattle.std.proofs.Common.{◌≡◌, ◌++◌, take, flat_map}
-use Rattle.cmd_listen.specs.Sources.{name_byte}
+use Rattle.cmd_listen.proofs.Terms.{◌≡◌, ◌++◌, take, flat_map, name_byte}
 use Rattle.cmd_listen.proofs.text.push_name.Given as goal
 
 -- the bytes so far

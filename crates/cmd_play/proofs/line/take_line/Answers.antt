@@ -1,7 +1,4 @@
-use Rattle.std.proofs.Common.{◌≡◌, [], refl, sym}
-use Rattle.devices.proofs.Tapes.{with_more-none}
-use Rattle.console.specs.declared.reading.Reading.TheVariants.{At, Blank}
-use Rattle.console.specs.Spelling.{reading_of}
+use Rattle.cmd_play.proofs.Terms.{◌≡◌, [], refl, sym, with_more-none, At, Blank, reading_of}
 use Rattle.cmd_play.proofs.Carrying.{answered_quiet}
 use Rattle.cmd_play.proofs.Faults.{handed_on}
 use Rattle.cmd_play.proofs.line.take_line.Goals as goal

@@ -1,4 +1,4 @@
-use Rattle.std.proofs.Common.{arith, refl}
+use Rattle.cmd_play.proofs.Terms.{arith, refl}
 use Rattle.cmd_play.proofs.Running.{fine_none}
 use Rattle.cmd_play.proofs.lines.play_lines.Goals as goal
 

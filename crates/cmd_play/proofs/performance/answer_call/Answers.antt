@@ -1,6 +1,4 @@
-use Rattle.std.proofs.Common.{refl}
-use Rattle.desk.specs.Played.{refusal}
-use Rattle.console.specs.Streams.{order_at}
+use Rattle.cmd_play.proofs.Terms.{refl, refusal, order_at}
 use Rattle.cmd_play.proofs.Carrying.{accepted, refused, performed_quiet, performed_tick}
 use Rattle.cmd_play.proofs.performance.answer_call.Goals as goal
 

@@ -1,5 +1,4 @@
-use Rattle.std.proofs.Common.{◌∙◌, ap, Err, refl}
-use Rattle.show_reader.proofs.OneShow.{of_its_show}
+use Rattle.cmd_play.proofs.Terms.{◌∙◌, ap, Err, refl, of_its_show}
 use Rattle.cmd_play.proofs.Beginning.{began}
 use Rattle.cmd_play.proofs.run.open.Goals as goal
 

@@ -1,5 +1,4 @@
-use Rattle.std.proofs.Common.{◌≡◌, ◌≤◌, arith}
-use Rattle.std.proofs.lemmas.Bool.Decides.{nat_tests}
+use Rattle.cmd_play.proofs.Terms.{◌≡◌, ◌≤◌, arith, nat_tests}
 use Rattle.cmd_play.proofs.Beginning.{of_each}
 use Rattle.cmd_play.proofs.run.play.Goals as goal
 

@@ -1,4 +1,4 @@
-use Rattle.std.proofs.Common.{rules}
+use Rattle.desk.proofs.Terms.{rules}
 use Rattle.desk.proofs.desk.carry_out.Goals as goal
 
 pub returns-in_err-go-in-Go-clause-answer : goal.returns-in_err-go-in-Go-clause-answer

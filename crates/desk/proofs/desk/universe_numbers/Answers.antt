@@ -1,7 +1,5 @@
-use Rattle.std.proofs.Common.{◌+◌, ℕ, ap, ◌∙◌, take, length, lit<, arith}
-use Rattle.std.specs.Prelude.{map}
-use Rattle.std.proofs.lemmas.List.{take_all, take_more, map-append, length-map, length-take-le}
-use borrow.Author.Rules.{scaled_Fits}
+use Rattle.desk.proofs.Terms.{◌+◌, ℕ, ap, ◌∙◌, take, length, lit<, arith, map, take_all, take_more}
+use Rattle.desk.proofs.Terms.{map-append, length-map, length-take-le, scaled_Fits}
 use Rattle.desk.proofs.Universes.{numbers_are, number_fits}
 use Rattle.desk.proofs.desk.universe_numbers.Goals as goal
 

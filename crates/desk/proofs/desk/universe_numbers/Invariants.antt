@@ -1,5 +1,4 @@
-use Rattle.std.proofs.Common.{◌≡◌, ◌+◌, take}
-use Rattle.std.specs.Prelude.{map}
+use Rattle.desk.proofs.Terms.{◌≡◌, ◌+◌, take, map}
 use Rattle.desk.proofs.desk.universe_numbers.Given as goal
 
 -- the numbers of the ordinals so far

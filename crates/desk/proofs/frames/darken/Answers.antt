@@ -1,7 +1,4 @@
-use Rattle.std.proofs.Common.{◌∙◌, ap}
-use Rattle.std.specs.Prelude.{slice_get}
-use Rattle.patch.specs.Frame.{frames_in}
-use Rattle.patch.proofs.InARow.{dark_in_a_row}
+use Rattle.desk.proofs.Terms.{◌∙◌, ap, slice_get, frames_in, dark_in_a_row}
 use Rattle.desk.proofs.frames.darken.Goals as goal
 
 pub returns : goal.returns

@@ -1,7 +1,5 @@
-use Rattle.std.proofs.Common.{◌≡◌, ◌∙◌, ◌-◌, arith}
-use Rattle.std.proofs.lemmas.List.Elements.{All-get_or}
-use Rattle.patch.specs.Frame.{listed_level, frames_in}
-use Rattle.patch.proofs.Redrawn.{channel_range}
+use Rattle.desk.proofs.Terms.{◌≡◌, ◌∙◌, ◌-◌, arith, All-get_or, listed_level, frames_in}
+use Rattle.desk.proofs.Terms.{channel_range}
 use Rattle.desk.proofs.Drawn.{drawn_alike}
 use Rattle.desk.proofs.frames.draw_merged.Goals as goal
 

@@ -1,5 +1,4 @@
-use Rattle.std.proofs.Common.{◌≡◌, ◌<◌, ◌≤◌, ℕ, get_or}
-use Rattle.std.specs.Prelude.{max}
+use Rattle.desk.proofs.Terms.{◌≡◌, ◌<◌, ◌≤◌, ℕ, get_or, max}
 use Rattle.desk.proofs.frames.merge_all.Given as goal
 
 -- the levels so far are merged, and in their range

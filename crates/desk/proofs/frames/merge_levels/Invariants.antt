@@ -1,7 +1,5 @@
-use Rattle.std.proofs.Common.{◌≡◌, ◌<◌, ◌≤◌, ◌+◌, ℕ, Bool, List, get_or}
-use Rattle.std.specs.Prelude.{max}
-use Rattle.show.specs.Tables.{Tables}
-use Rattle.playback.specs.Played.{Move, playback_level}
+use Rattle.desk.proofs.Terms.{◌≡◌, ◌<◌, ◌≤◌, ◌+◌, ℕ, Bool, List, get_or, max, Tables, Move}
+use Rattle.desk.proofs.Terms.{playback_level}
 use Rattle.playback.specs.Stands as playback
 use Rattle.desk.proofs.frames.merge_levels.Given as goal
 

@@ -1,5 +1,4 @@
-use Rattle.std.proofs.Common.{arith}
-use Rattle.std.proofs.lemmas.Grind.{common_steps}
+use Rattle.desk.proofs.Terms.{arith, common_steps}
 use Rattle.desk.proofs.frames.merge_some.Goals as goal
 
 pub loop-channel-preserved : goal.loop-channel-preserved

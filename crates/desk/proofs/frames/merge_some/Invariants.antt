@@ -1,10 +1,6 @@
-use Rattle.std.proofs.Common.{◌≡◌, ◌<◌, ℕ, Bool, List, get_or}
-use Rattle.std.specs.Prelude.{max}
-use Rattle.show.specs.Numbers.{AreLevels}
-use Rattle.show.specs.Tables.{Tables}
-use Rattle.playback.specs.Played.{Move, playback_level}
+use Rattle.desk.proofs.Terms.{◌≡◌, ◌<◌, ℕ, Bool, List, get_or, max, AreLevels, Tables, Move}
+use Rattle.desk.proofs.Terms.{playback_level, listed_level}
 use Rattle.playback.specs.Stands as playback
-use Rattle.patch.specs.Frame.{listed_level}
 use Rattle.desk.proofs.frames.merge_some.Given as goal
 
 -- the levels of the channels so far are merged, and all are in their range

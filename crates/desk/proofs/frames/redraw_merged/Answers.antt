@@ -1,7 +1,5 @@
-use Rattle.std.proofs.Common.{◌≡◌, ◌∙◌, ◌-◌, ℕ, arith, get_or}
-use Rattle.std.proofs.lemmas.List.Elements.{All-get_or}
-use Rattle.patch.specs.Frame.{listed_level}
-use Rattle.patch.proofs.Redrawn.{channel_range}
+use Rattle.desk.proofs.Terms.{◌≡◌, ◌∙◌, ◌-◌, ℕ, arith, get_or, All-get_or, listed_level}
+use Rattle.desk.proofs.Terms.{channel_range}
 use Rattle.desk.proofs.frames.redraw_merged.Goals as goal
 
 pub returns-in-Some-clause-drawn : goal.returns-in-Some-clause-drawn

@@ -1,4 +1,4 @@
-use Rattle.std.proofs.Common.{ap, ◌∙◌, Some}
+use Rattle.live_input.proofs.Terms.{ap, ◌∙◌, Some}
 use Rattle.console.specs.Spelling as spelling
 use Rattle.live_input.proofs.Spelled.{reading_is}
 use Rattle.live_input.proofs.given.given_line.Goals as goal

@@ -1,7 +1,5 @@
-use Rattle.std.proofs.Common.{◌∙◌, ℕ, List, length, map, take, ap}
-use Rattle.std.proofs.lemmas.List.{take_all, take_min}
-use Rattle.std.proofs.Math.Nat.{min_comm}
-use Rattle.live_input.specs.Night.{printable}
+use Rattle.live_input.proofs.Terms.{◌∙◌, ℕ, List, length, map, take, ap, take_all, take_min}
+use Rattle.live_input.proofs.Terms.{min_comm, printable}
 use Rattle.live_input.proofs.given.refused_text.Goals as goal
 
 pub returns : goal.returns

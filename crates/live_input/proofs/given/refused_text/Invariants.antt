@@ -1,5 +1,4 @@
-use Rattle.std.proofs.Common.{◌≡◌, map, take}
-use Rattle.live_input.specs.Night.{printable}
+use Rattle.live_input.proofs.Terms.{◌≡◌, map, take, printable}
 use Rattle.live_input.proofs.given.refused_text.Given as goal
 
 abbrev pub invariant-loop-byte : goal.invariant-loop-byte

@@ -1,5 +1,4 @@
-use Rattle.std.proofs.Common.{◌≡◌, ◌≤◌, ◌++◌, length, drop}
-use Rattle.live_input.specs.Keys.{text_from, without_keys}
+use Rattle.live_input.proofs.Terms.{◌≡◌, ◌≤◌, ◌++◌, length, drop, text_from, without_keys}
 use Rattle.live_input.proofs.keys.without_keys.Given as goal
 
 -- what was looked at gave the text so far, and the rest goes on from here

@@ -1,7 +1,5 @@
-use Rattle.std.proofs.Common.{◌∙◌, ◌≤◌, sym, length, arith}
-use Rattle.std.proofs.lemmas.Bool.Decides.{nat_tests}
-use Rattle.std.proofs.lemmas.Grind.{common_steps}
-use Rattle.std.proofs.lemmas.List.{take-append-le, take_all}
+use Rattle.live_input.proofs.Terms.{◌∙◌, ◌≤◌, sym, length, arith, nat_tests, common_steps}
+use Rattle.live_input.proofs.Terms.{take-append-le, take_all}
 use Rattle.live_input.proofs.typed.look_at.Goals as goal
 
 pub returns-then-not-is_full : goal.returns-then-not-is_full

@@ -1,13 +1,7 @@
-use Rattle.std.proofs.Common.{◌≡◌, ℕ, ◌+◌, ◌*◌, IsTrue, get_or, sym, subst, ap, arith}
-use Rattle.std.specs.Prelude.{All, unwrap_or}
-use Rattle.std.specs.Ordering.{nat_cmp}
+use Rattle.masters.proofs.Terms.{◌≡◌, ℕ, ◌+◌, ◌*◌, IsTrue, get_or, sym, subst, ap, arith, All}
+use Rattle.masters.proofs.Terms.{unwrap_or, nat_cmp, common_steps, is_channel, level_in, LevelMap}
+use Rattle.masters.proofs.Terms.{entries_from_keys, to_true}
 use Rattle.std.specs.FinMap as maps
-use Rattle.std.proofs.lemmas.Grind.{common_steps}
-use Rattle.show.specs.Numbers.{is_channel}
-use Rattle.show.specs.Readers.{level_in}
-use Rattle.show.specs.Tables.{LevelMap}
-use Rattle.show.proofs.Ranges.{entries_from_keys}
-use Rattle.show.proofs.Sorted.{to_true}
 use Rattle.masters.proofs.Greatest.{greatest_next}
 use Rattle.masters.proofs.floors.raise.Goals as goal
 

@@ -1,8 +1,5 @@
-use Rattle.std.proofs.Common.{◌≡◌, ℕ, ◌+◌, ◌*◌, ◌<◌, get_or, take, length}
-use Rattle.std.specs.Prelude.{map, max}
-use Rattle.show.specs.Numbers.{AreLevels}
-use Rattle.show.specs.Readers.{level_in}
-use Rattle.masters.specs.Merged.{greatest}
+use Rattle.masters.proofs.Terms.{◌≡◌, ℕ, ◌+◌, ◌*◌, ◌<◌, get_or, take, length, map, max, AreLevels}
+use Rattle.masters.proofs.Terms.{level_in, greatest}
 use Rattle.masters.proofs.floors.raise.Given as goal
 
 -- the records so far raised each level

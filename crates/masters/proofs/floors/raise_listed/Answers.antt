@@ -1,12 +1,7 @@
-use Rattle.std.proofs.Common.{◌≡◌, ℕ, ◌+◌, ◌-◌, ◌*◌, ◌<◌, ◌≤◌, ◌∷◌, IsTrue, List, get_or, drop}
-use Rattle.std.proofs.Common.{subst}
-use Rattle.std.proofs.Common.{ap, ◌∙◌, arith, length, sym}
-use Rattle.std.specs.Prelude.{max}
-use Rattle.std.specs.Ordering.{nat_cmp}
-use Rattle.std.specs.FinMap.{is_sorted}
-use Rattle.std.proofs.lemmas.List.{drop_more, at_drop_all, length-set}
-use Rattle.std.proofs.lemmas.List.Elements.{All-set, All-get_or}
-use Rattle.show.proofs.Sorted.{and_right, from_true, to_true}
+use Rattle.masters.proofs.Terms.{◌≡◌, ℕ, ◌+◌, ◌-◌, ◌*◌, ◌<◌, ◌≤◌, ◌∷◌, IsTrue, List, get_or, drop}
+use Rattle.masters.proofs.Terms.{subst, ap, ◌∙◌, arith, length, sym, max, nat_cmp, is_sorted}
+use Rattle.masters.proofs.Terms.{drop_more, at_drop_all, length-set, All-set, All-get_or, and_right}
+use Rattle.masters.proofs.Terms.{from_true, to_true}
 use Rattle.masters.proofs.Raised.{byte_in, raised_more, in_place}
 use Rattle.masters.proofs.floors.raise_listed.Goals as goal
 

@@ -1,8 +1,5 @@
-use Rattle.std.proofs.Common.{◌≡◌, ℕ, ◌+◌, ◌*◌, ◌<◌, IsTrue, get_or, drop, length}
-use Rattle.std.specs.Prelude.{max}
-use Rattle.std.specs.Ordering.{nat_cmp}
-use Rattle.std.specs.FinMap.{is_sorted}
-use Rattle.show.specs.Numbers.{AreLevels}
+use Rattle.masters.proofs.Terms.{◌≡◌, ℕ, ◌+◌, ◌*◌, ◌<◌, IsTrue, get_or, drop, length, max, nat_cmp}
+use Rattle.masters.proofs.Terms.{is_sorted, AreLevels}
 use Rattle.masters.proofs.Raised.{byte_in}
 use Rattle.masters.proofs.floors.raise_listed.Given as goal
 

@@ -1,6 +1,4 @@
-use Rattle.std.proofs.Common.{ℕ, ◌*◌, get_or, arith}
-use Rattle.show.specs.Readers.{level_in}
-use Rattle.show.specs.Tables.{LevelMap}
+use Rattle.masters.proofs.Terms.{ℕ, ◌*◌, get_or, arith, level_in, LevelMap}
 use Rattle.masters.proofs.Greatest.{greatest_next}
 use Rattle.masters.proofs.highest.highest.Goals as goal
 

@@ -1,7 +1,4 @@
-use Rattle.std.proofs.Common.{◌≡◌, ◌*◌, ◌≤◌, get_or, take}
-use Rattle.std.specs.Prelude.{map}
-use Rattle.show.specs.Readers.{level_in}
-use Rattle.masters.specs.Merged.{greatest}
+use Rattle.masters.proofs.Terms.{◌≡◌, ◌*◌, ◌≤◌, get_or, take, map, level_in, greatest}
 use Rattle.masters.proofs.highest.highest.Given as goal
 
 -- the greatest of the records that were looked at; a level is at most 255 times 255

@@ -1,5 +1,4 @@
-use Rattle.std.proofs.Common.{refl, ap, ◌∙◌, ℕ, ◌≡◌, ◌+◌, ◌*◌, get_or, arith}
-use Rattle.std.proofs.lemmas.List.{get_or-replicate}
+use Rattle.patch.proofs.Terms.{refl, ap, ◌∙◌, ℕ, ◌≡◌, ◌+◌, ◌*◌, get_or, arith, get_or-replicate}
 use Rattle.patch.proofs.Sourced.{slot_dark}
 use Rattle.patch.proofs.draw.draw_frame.Goals as goal
 

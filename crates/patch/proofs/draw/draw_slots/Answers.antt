@@ -1,5 +1,5 @@
-use Rattle.std.proofs.Common.{◌≡◌, ℕ, zero, suc, ◌<◌, List, [], ◌∷◌, length, get_or, arith, refl}
-use Rattle.patch.specs.declared.sources.Bytes.TheVariants.{Dark, Mixed}
+use Rattle.patch.proofs.Terms.{◌≡◌, ℕ, zero, suc, ◌<◌, List, [], ◌∷◌, length, get_or, arith, refl}
+use Rattle.patch.proofs.Terms.{Dark, Mixed}
 use Rattle.patch.proofs.draw.draw_slots.Goals as goal
 use Rattle.patch.proofs.draw.draw_slots.Goals.{then-drawing, else-drawing}
 

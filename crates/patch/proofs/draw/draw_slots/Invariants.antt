@@ -1,5 +1,4 @@
-use Rattle.std.proofs.Common.{◌≡◌, ℕ, ◌*◌, ◌<◌, get_or}
-use Rattle.show.specs.Readers.{slot_of}
+use Rattle.patch.proofs.Terms.{◌≡◌, ℕ, ◌*◌, ◌<◌, get_or, slot_of}
 use Rattle.patch.proofs.draw.draw_slots.Given as goal
 
 -- the slots of the ordinals so far are drawn

@@ -1,4 +1,4 @@
-use Rattle.std.proofs.Common.{◌≡◌, ℕ, ◌+◌, ◌<◌, get_or, length}
+use Rattle.patch.proofs.Terms.{◌≡◌, ℕ, ◌+◌, ◌<◌, get_or, length}
 use Rattle.patch.proofs.draw.eight_slots.Given as goal
 
 -- the slots so far are those of their channels

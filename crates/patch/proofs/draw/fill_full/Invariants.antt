@@ -1,5 +1,4 @@
-use Rattle.std.proofs.Common.{◌≡◌, ℕ, ◌<◌, get_or}
-use Rattle.show.specs.Readers.{slot_of}
+use Rattle.patch.proofs.Terms.{◌≡◌, ℕ, ◌<◌, get_or, slot_of}
 use Rattle.patch.proofs.draw.fill_full.Given as goal
 
 -- the slots so far are those of their channels

@@ -1,5 +1,4 @@
-use Rattle.std.proofs.Common.{ℕ, ◌+◌, ◌≤◌, get_or, arith}
-use Rattle.std.proofs.lemmas.List.Elements.{All-get_or}
+use Rattle.patch.proofs.Terms.{ℕ, ◌+◌, ◌≤◌, get_or, arith, All-get_or}
 use Rattle.patch.proofs.draw.gather_levels.Goals as goal
 
 pub returns-clause-full : goal.returns-clause-full

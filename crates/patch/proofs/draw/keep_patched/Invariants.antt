@@ -1,4 +1,4 @@
-use Rattle.std.proofs.Common.{◌≡◌, ◌≢◌, ℕ, ◌+◌, ◌<◌, ◌≤◌, get_or}
+use Rattle.patch.proofs.Terms.{◌≡◌, ◌≢◌, ℕ, ◌+◌, ◌<◌, ◌≤◌, get_or}
 use Rattle.patch.proofs.draw.keep_patched.Given as goal
 
 -- below the place 0 or as it was, from it on as it was

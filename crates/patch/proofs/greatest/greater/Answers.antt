@@ -1,6 +1,4 @@
-use Rattle.std.proofs.Common.{ap, ◌∙◌, ltb, length, get_or, w8}
-use Rattle.std.specs.Simd.Lanes.{sel_l}
-use Rattle.std.proofs.lemmas.Simd.{tops_compared}
+use Rattle.patch.proofs.Terms.{ap, ◌∙◌, ltb, length, get_or, w8, sel_l, tops_compared}
 use Rattle.patch.proofs.Vectors.{length-most, get_or-most}
 use Rattle.patch.proofs.greatest.greater.Goals as goal
 

@@ -1,4 +1,4 @@
-use Rattle.std.proofs.Common.{◌≡◌, ◌<◌, ◌≤◌, ℕ, max, get_or}
+use Rattle.patch.proofs.Terms.{◌≡◌, ◌<◌, ◌≤◌, ℕ, max, get_or}
 use Rattle.patch.proofs.greatest.max_rest.Given as goal
 
 -- below the slot the greater of the two, before and after as it was

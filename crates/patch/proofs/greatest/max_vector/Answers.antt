@@ -1,5 +1,5 @@
-use Rattle.std.proofs.Common.{◌∙◌, ◌-◌, max, arith}
-use Rattle.std.proofs.lemmas.Simd.{length-chunk, get_or-put_chunk_below, get_or-put_chunk_above}
+use Rattle.patch.proofs.Terms.{◌∙◌, ◌-◌, max, arith, length-chunk, get_or-put_chunk_below}
+use Rattle.patch.proofs.Terms.{get_or-put_chunk_above}
 use Rattle.patch.proofs.Vectors.{stored, loaded}
 use Rattle.patch.proofs.greatest.max_vector.Goals as goal
 

@@ -1,4 +1,4 @@
-use Rattle.std.proofs.Common.{◌≡◌, ◌<◌, ◌≤◌, ◌*◌, ℕ, max, get_or}
+use Rattle.patch.proofs.Terms.{◌≡◌, ◌<◌, ◌≤◌, ◌*◌, ℕ, max, get_or}
 use Rattle.patch.proofs.greatest.max_vectors.Given as goal
 
 -- in the vectors so far the greater of the two, from them on as it was

@@ -1,5 +1,4 @@
-use Rattle.std.proofs.Common.{arith}
-use Rattle.patch.specs.Index.{IsBegin}
+use Rattle.patch.proofs.Terms.{arith, IsBegin}
 use Rattle.patch.proofs.Indexed.{places_more}
 use Rattle.patch.proofs.index.begins_of.Goals as goal
 

@@ -1,5 +1,4 @@
-use Rattle.std.proofs.Common.{◌≡◌, ℕ, ◌+◌, ◌<◌, get_or, length}
-use Rattle.patch.specs.Index.{IsBegin}
+use Rattle.patch.proofs.Terms.{◌≡◌, ℕ, ◌+◌, ◌<◌, get_or, length, IsBegin}
 use Rattle.patch.proofs.index.begins_of.Given as goal
 
 -- the places of the channels so far

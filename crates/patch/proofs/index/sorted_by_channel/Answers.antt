@@ -1,5 +1,4 @@
-use Rattle.std.proofs.Common.{rules}
-use Rattle.std.proofs.lemmas.List.Sorted.{IsNonDecreasingBy-from_sort_by_key}
+use Rattle.patch.proofs.Terms.{rules, IsNonDecreasingBy-from_sort_by_key}
 use Rattle.patch.proofs.index.sorted_by_channel.Goals as goal
 
 pub returns-clause-rising : goal.returns-clause-rising

@@ -1,7 +1,5 @@
-use Rattle.std.proofs.Common.{rules, of_calls, ltb, arith}
-use Rattle.std.proofs.lemmas.Bool.Decides.{nat_tests}
-use Rattle.std.proofs.lemmas.Fn.{always_returns_same}
-use Rattle.std.proofs.lemmas.List.Sorted.{IsPartitionedBy-ltb}
+use Rattle.patch.proofs.Terms.{rules, of_calls, ltb, arith, nat_tests, always_returns_same}
+use Rattle.patch.proofs.Terms.{IsPartitionedBy-ltb}
 use Rattle.patch.proofs.Frames.{rising}
 use Rattle.patch.proofs.rig.first_from.Goals as goal
 

@@ -1,6 +1,4 @@
-use Rattle.std.proofs.Common.{◌≡◌, ℕ, ◌-◌, ◌≤◌, get_or, ap, ◌∙◌, arith}
-use Rattle.patch.specs.Frame.{listed_level}
-use Rattle.patch.specs.Index.{slot_at}
+use Rattle.patch.proofs.Terms.{◌≡◌, ℕ, ◌-◌, ◌≤◌, get_or, ap, ◌∙◌, arith, listed_level, slot_at}
 use Rattle.patch.proofs.Redrawn.{channel_range, same_slot, want, kept, drawn, next}
 use Rattle.patch.proofs.slots.redraw_channels.Goals as goal
 

@@ -1,10 +1,6 @@
-use Rattle.std.proofs.Common.{◌≡◌, ◌≢◌, ℕ, ◌<◌, ◌≤◌, IsTrue, get_or, length, Some}
-use Rattle.std.specs.Prelude.{All}
+use Rattle.patch.proofs.Terms.{◌≡◌, ◌≢◌, ℕ, ◌<◌, ◌≤◌, IsTrue, get_or, length, Some, All, is_channel}
+use Rattle.patch.proofs.Terms.{is_dimmer, PatchMap, listed_level, dimmer_slot, IsIndex, slot_at}
 use Rattle.std.specs.FinMap as map
-use Rattle.show.specs.Numbers.{is_channel, is_dimmer}
-use Rattle.show.specs.Tables.{PatchMap}
-use Rattle.patch.specs.Frame.{listed_level, dimmer_slot}
-use Rattle.patch.specs.Index.{IsIndex, slot_at}
 use Rattle.patch.proofs.slots.redraw_channels.Given as goal
 
 -- each slot is that of its dimmer, but for those of the channels that are still to come

@@ -1,5 +1,4 @@
-use Rattle.std.proofs.Common.{ℕ, ◌∙◌, arith}
-use Rattle.patch.specs.Index.{dimmer_at}
+use Rattle.patch.proofs.Terms.{ℕ, ◌∙◌, arith, dimmer_at}
 use Rattle.patch.proofs.Redrawn.{dimmer_range, written, behind}
 use Rattle.patch.proofs.slots.redraw_run.Goals as goal
 

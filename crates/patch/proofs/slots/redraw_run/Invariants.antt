@@ -1,7 +1,5 @@
-use Rattle.std.proofs.Common.{◌≡◌, ◌≢◌, ℕ, ◌<◌, ◌≤◌, IsTrue}
-use Rattle.show.specs.Numbers.{is_dimmer}
-use Rattle.show.specs.Readers.{slot_of}
-use Rattle.patch.specs.Index.{slot_at, dimmer_at, byte_at}
+use Rattle.patch.proofs.Terms.{◌≡◌, ◌≢◌, ℕ, ◌<◌, ◌≤◌, IsTrue, is_dimmer, slot_of, slot_at}
+use Rattle.patch.proofs.Terms.{dimmer_at, byte_at}
 use Rattle.patch.proofs.slots.redraw_run.Given as goal
 
 -- each slot is what is wanted, but for those of the dimmers from i on

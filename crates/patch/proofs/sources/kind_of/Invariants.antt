@@ -1,4 +1,4 @@
-use Rattle.std.proofs.Common.{◌≡◌, ℕ, ◌+◌, ◌<◌, ◌⊎◌, true, get_or}
+use Rattle.patch.proofs.Terms.{◌≡◌, ℕ, ◌+◌, ◌<◌, ◌⊎◌, true, get_or}
 use Rattle.patch.proofs.sources.kind_of.Given as goal
 
 -- what the bytes so far are

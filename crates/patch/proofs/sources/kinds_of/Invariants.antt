@@ -1,6 +1,4 @@
-use Rattle.std.proofs.Common.{◌≡◌, ℕ, ◌*◌, ◌<◌, get_or, length}
-use Rattle.patch.specs.Sources.{AreBytesOf}
-use Rattle.patch.specs.declared.sources.Bytes.TheVariants.{Mixed}
+use Rattle.patch.proofs.Terms.{◌≡◌, ℕ, ◌*◌, ◌<◌, get_or, length, AreBytesOf, Mixed}
 use Rattle.patch.proofs.sources.kinds_of.Given as goal
 
 -- the kinds of the ordinals so far

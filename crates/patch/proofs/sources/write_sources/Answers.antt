@@ -1,5 +1,4 @@
-use Rattle.std.proofs.Common.{◌≡◌, ℕ, ◌+◌, ◌-◌, ◌<◌, get_or, length, arith, refl}
-use Rattle.std.proofs.lemmas.Bool.Decides.{nat_tests}
+use Rattle.patch.proofs.Terms.{◌≡◌, ℕ, ◌+◌, ◌-◌, ◌<◌, get_or, length, arith, refl, nat_tests}
 use Rattle.patch.proofs.Redrawn.{dimmer_range, channel_range}
 use Rattle.patch.proofs.Sourced.{slot_dark, sources_more, set_below}
 use Rattle.patch.proofs.sources.write_sources.Goals as goal

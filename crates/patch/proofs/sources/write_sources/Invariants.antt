@@ -1,8 +1,5 @@
-use Rattle.std.proofs.Common.{◌≡◌, ℕ, ◌+◌, ◌<◌, get_or, take}
-use Rattle.std.specs.Option.{option_map_or}
-use Rattle.std.specs.Ordering.{nat_cmp}
-use Rattle.std.specs.FinMap.{find}
-use Rattle.show.specs.Readers.{slot_of}
+use Rattle.patch.proofs.Terms.{◌≡◌, ℕ, ◌+◌, ◌<◌, get_or, take, option_map_or, nat_cmp, find}
+use Rattle.patch.proofs.Terms.{slot_of}
 use Rattle.patch.proofs.sources.write_sources.Given as goal
 
 -- each dimmer has its source and its byte in the part of the patch that is done

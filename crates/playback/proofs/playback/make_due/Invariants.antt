@@ -1,6 +1,6 @@
-use Rattle.std.proofs.Common.{◌≡◌, ◌≤◌, Bool, List, map, IfSome}
-use Rattle.playback.specs.Placed.{IsPlaceAfter, cues_above}
-use Rattle.playback.specs.Played.{Move, moves_by, start_of}
+use Rattle.playback.proofs.Terms.{◌≡◌, ◌≤◌, Bool, List, IsPlaceAfter, cues_above, Move, moves_by}
+use Rattle.playback.proofs.Terms.{start_of}
+use Rattle.std.proofs.Common.{map, IfSome}
 use Rattle.playback.proofs.playback.make_due.Given as goal
 
 -- some of the moves that are due are made

@@ -1,4 +1,4 @@
-use Rattle.std.proofs.Common.{refl}
+use Rattle.show.proofs.Terms.{refl}
 use Rattle.show.proofs.Entries.{below_end}
 use Rattle.show.proofs.many.end_of.Goals as goal
 

@@ -1,5 +1,4 @@
-use Rattle.std.proofs.Common.{◌+◌, ◌<◌, length, arith, take, Some}
-use Rattle.std.proofs.lemmas.List.{take_all}
+use Rattle.show.proofs.Terms.{◌+◌, ◌<◌, length, arith, take, Some, take_all}
 use Rattle.show.proofs.Entries.{table_set, read_of, find_more}
 use Rattle.show.proofs.many.fill.Goals as goal
 

@@ -1,5 +1,4 @@
-use Rattle.std.proofs.Common.{take}
-use Rattle.show.specs.Many.{IsTableOf}
+use Rattle.show.proofs.Terms.{take, IsTableOf}
 use Rattle.show.proofs.many.fill.Given as goal
 
 abbrev pub invariant-loop-entry : goal.invariant-loop-entry

@@ -1,5 +1,4 @@
-use Rattle.std.proofs.Common.{None, sym, ap, ◌∙◌, arith, append-nil}
-use Rattle.std.proofs.lemmas.List.{get_or_read}
+use Rattle.show.proofs.Terms.{None, sym, ap, ◌∙◌, arith, append-nil, get_or_read}
 use Rattle.show.proofs.Entries.{filter_none, filter_all, gathered}
 use Rattle.show.proofs.many.gather.Goals as goal
 use Rattle.show.proofs.many.gather.Goals.{in-Some+in_ok-push, in_default}

@@ -1,8 +1,6 @@
-use Rattle.std.proofs.Common.{◌≡◌, ℕ, ◌<◌, IsTrue, List, length}
-use Rattle.std.specs.Prelude.{All, filter, nat_lt}
-use Rattle.std.specs.Ordering.{nat_cmp}
+use Rattle.show.proofs.Terms.{◌≡◌, ℕ, ◌<◌, IsTrue, List, length, All, filter, nat_lt, nat_cmp}
+use Rattle.show.proofs.Terms.{IsTableOf}
 use Rattle.std.specs.FinMap as map
-use Rattle.show.specs.Many.{IsTableOf}
 use Rattle.show.proofs.many.gather.Given as goal
 
 abbrev pub invariant-loop-key : goal.invariant-loop-key

@@ -1,4 +1,4 @@
-use Rattle.std.proofs.Common.{◌≡◌, ◌≤◌, true, arith}
+use Rattle.show.proofs.Terms.{◌≡◌, ◌≤◌, true, arith}
 use Rattle.show.proofs.Entries.{behind_more, behind_below}
 use Rattle.show.proofs.many.go_behind.Goals as goal
 

@@ -1,6 +1,4 @@
-use Rattle.std.proofs.Common.{◌≡◌, ◌<◌, ◌++◌, take}
-use Rattle.std.specs.Prelude.{All}
-use Rattle.show.specs.Many.{with_entries}
+use Rattle.show.proofs.Terms.{◌≡◌, ◌<◌, ◌++◌, take, All, with_entries}
 use Rattle.show.proofs.many.go_behind.Given as goal
 
 abbrev pub invariant-loop-entry : goal.invariant-loop-entry

@@ -1,4 +1,4 @@
-use Rattle.std.proofs.Common.{None, arith, refl}
+use Rattle.show.proofs.Terms.{None, arith, refl}
 use Rattle.show.proofs.many.merge.Goals as goal
 
 pub merge_by-requires-clause-entries : goal.merge_by-requires-clause-entries

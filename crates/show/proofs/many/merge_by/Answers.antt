@@ -1,5 +1,4 @@
-use Rattle.std.proofs.Common.{◌≡◌, length, ◌∙◌, arith}
-use Rattle.show.specs.Many.{with_entries}
+use Rattle.show.proofs.Terms.{◌≡◌, length, ◌∙◌, arith, with_entries}
 use Rattle.show.proofs.Entries.{sorted_with_entries, with_entries-fit}
 use Rattle.show.proofs.many.merge_by.Goals as goal
 

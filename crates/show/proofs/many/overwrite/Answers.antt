@@ -1,6 +1,4 @@
-use Rattle.std.proofs.Common.{◌<◌, length, arith, take, Some, None, cond}
-use Rattle.std.proofs.lemmas.List.{take_all}
-use Rattle.show.specs.Many.{with_entries}
+use Rattle.show.proofs.Terms.{◌<◌, length, arith, take, Some, None, cond, take_all, with_entries}
 use Rattle.show.proofs.Entries.{table_set, read_of, find_with_entry, with_entries-more}
 use Rattle.show.proofs.many.overwrite.Goals as goal
 

@@ -1,5 +1,4 @@
-use Rattle.std.proofs.Common.{ℕ, List, take}
-use Rattle.show.specs.Many.{with_entries, IsTableOf}
+use Rattle.show.proofs.Terms.{ℕ, List, take, with_entries, IsTableOf}
 use Rattle.show.proofs.many.overwrite.Given as goal
 
 abbrev pub invariant-loop-entry : goal.invariant-loop-entry

@@ -1,6 +1,5 @@
-use Rattle.std.proofs.Common.{◌+◌, true, false, refl, drop, sym, ap, ◌∙◌, arith}
-use Rattle.std.specs.Ordering.{nat_cmp}
-use Rattle.std.specs.Cmp.{nat_cmp_total}
+use Rattle.show.proofs.Terms.{◌+◌, true, false, refl, drop, sym, ap, ◌∙◌, arith, nat_cmp}
+use Rattle.show.proofs.Terms.{nat_cmp_total}
 use Rattle.show.proofs.Sorted.{not_so, sorted_put}
 use Rattle.show.proofs.Removed.{sorted_without}
 use Rattle.show.proofs.Entries.{next_of, with_next, count_next}

@@ -1,7 +1,6 @@
-use Rattle.std.proofs.Common.{◌≡◌, IsTrue, ◌+◌, ◌≤◌, drop, count_by, vec_len, vec_capacity}
-use Rattle.std.specs.Ordering.{nat_cmp}
+use Rattle.show.proofs.Terms.{◌≡◌, IsTrue, ◌+◌, ◌≤◌, drop, count_by, vec_len, vec_capacity, nat_cmp}
+use Rattle.show.proofs.Terms.{with_entries}
 use Rattle.std.specs.FinMap as map
-use Rattle.show.specs.Many.{with_entries}
 use Rattle.show.proofs.many.put_each.Given as goal
 
 abbrev pub invariant-loop-entry : goal.invariant-loop-entry

@@ -1,6 +1,4 @@
-use Rattle.std.proofs.Common.{◌<◌, arith, take}
-use Rattle.std.proofs.lemmas.List.{take_all}
-use Rattle.std.proofs.lemmas.List.Elements.{All-more, All-weaker}
+use Rattle.show.proofs.Terms.{◌<◌, arith, take, take_all, All-more, All-weaker}
 use Rattle.show.proofs.many.table_len.Goals as goal
 
 pub loop-entry-preserved : goal.loop-entry-preserved

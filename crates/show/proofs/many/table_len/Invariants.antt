@@ -1,5 +1,4 @@
-use Rattle.std.proofs.Common.{◌<◌, ◌≤◌, take}
-use Rattle.std.specs.Prelude.{All}
+use Rattle.show.proofs.Terms.{◌<◌, ◌≤◌, take, All}
 use Rattle.show.proofs.many.table_len.Given as goal
 
 abbrev pub invariant-loop-entry : goal.invariant-loop-entry

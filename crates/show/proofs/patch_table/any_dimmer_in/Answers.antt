@@ -1,6 +1,5 @@
-use Rattle.std.proofs.Common.{◌≡◌, ℕ, ◌≤◌, length, false, sym, ap, ◌∙◌, arith}
-use Rattle.std.specs.Prelude.{◌==◌, nat_lt}
-use Rattle.std.proofs.lemmas.Bool.Decides.{nat_tests}
+use Rattle.show.proofs.Terms.{◌≡◌, ℕ, ◌≤◌, length, false, sym, ap, ◌∙◌, arith, nat_lt, nat_tests}
+use Rattle.std.specs.Prelude.{◌==◌}
 use Rattle.show.proofs.Ordinals.{decided, passed}
 use Rattle.show.proofs.patch_table.any_dimmer_in.Goals as goal
 

@@ -1,8 +1,5 @@
-use Rattle.std.proofs.Common.{rules, of_calls, ltb, arith}
-use Rattle.std.proofs.lemmas.Bool.Decides.{nat_tests}
-use Rattle.std.proofs.lemmas.Fn.{always_returns_same}
-use Rattle.std.proofs.lemmas.List.Sorted.{IsPartitionedBy-ltb}
-use Rattle.show.specs.Readers.{ordinal_of}
+use Rattle.show.proofs.Terms.{rules, of_calls, ltb, arith, nat_tests, always_returns_same}
+use Rattle.show.proofs.Terms.{IsPartitionedBy-ltb, ordinal_of}
 use Rattle.show.proofs.Ordinals.{ordinals_rise}
 use Rattle.show.proofs.patch_table.first_in.Goals as goal
 

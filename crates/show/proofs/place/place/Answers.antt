@@ -1,5 +1,4 @@
-use Rattle.std.proofs.Common.{rules, arith, ◌-◌, length, Ok, sym}
-use Rattle.std.proofs.lemmas.List.Sorted.{answers_always}
+use Rattle.show.proofs.Terms.{rules, arith, ◌-◌, length, Ok, sym, answers_always}
 use Rattle.show.proofs.Sorted.{searched, gap_end}
 use Rattle.show.proofs.place.place.Goals as goal
 

@@ -1,6 +1,4 @@
-use Rattle.std.proofs.Common.{◌≡◌, arith, sym, subst, None, IsSome, length, ◌∙◌}
-use Rattle.std.specs.FinMap.{find}
-use Rattle.std.proofs.lemmas.List.Edits.{insert_end}
+use Rattle.show.proofs.Terms.{◌≡◌, arith, sym, subst, None, IsSome, length, ◌∙◌, find, insert_end}
 use Rattle.show.proofs.Sorted.{not_so, put_at, put_gap, find_gap}
 use Rattle.show.proofs.place.put.Goals as goal
 

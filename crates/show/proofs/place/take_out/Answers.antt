@@ -1,4 +1,4 @@
-use Rattle.std.proofs.Common.{sym, ◌∙◌}
+use Rattle.show.proofs.Terms.{sym, ◌∙◌}
 use Rattle.show.proofs.Sorted.{from_true}
 use Rattle.show.proofs.Removed.{remove_at, without_gap}
 use Rattle.show.proofs.place.take_out.Goals as goal

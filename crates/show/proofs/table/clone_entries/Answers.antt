@@ -1,5 +1,4 @@
-use Rattle.std.proofs.Common.{◌++◌, ◌∷◌, [], take, sym, ap, ◌∙◌}
-use Rattle.std.proofs.lemmas.List.{take_more}
+use Rattle.show.proofs.Terms.{◌++◌, ◌∷◌, [], take, sym, ap, ◌∙◌, take_more}
 use Rattle.show.proofs.table.clone_entries.Goals as goal
 
 pub loop-entry-preserved : goal.loop-entry-preserved

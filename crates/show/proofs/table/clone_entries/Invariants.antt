@@ -1,4 +1,4 @@
-use Rattle.std.proofs.Common.{◌≡◌, take}
+use Rattle.show.proofs.Terms.{◌≡◌, take}
 use Rattle.show.proofs.table.clone_entries.Given as goal
 
 abbrev pub invariant-loop-entry : goal.invariant-loop-entry

@@ -1,8 +1,4 @@
-use Rattle.std.proofs.Common.{sym, subst}
-use Rattle.ascii_text.specs.Text.{words_of}
-use Rattle.show_line.specs.Keywords.{may_own}
-use Rattle.show_line.specs.Pairs.{desk_limits}
-use Rattle.show_line.specs.Sound.{IsSound}
+use Rattle.show_line.proofs.Terms.{sym, subst, words_of, may_own, desk_limits, IsSound}
 use Rattle.show_line.proofs.Ranged.{said_is, said_sound}
 use Rattle.show_line.proofs.line.read_line.Goals as goal
 

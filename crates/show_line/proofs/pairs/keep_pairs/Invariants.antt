@@ -1,7 +1,5 @@
-use Rattle.std.proofs.Common.{◌≡◌, ◌-◌, ◌++◌}
-use Rattle.arrayvec.specs.ArrayVec.{array_vec_len}
-use Rattle.ascii_text.specs.LinesLeft.{words_left}
-use Rattle.show_line.specs.Pairs.{desk_limits, pair_fault, pairs_in}
+use Rattle.show_line.proofs.Terms.{◌≡◌, ◌-◌, ◌++◌, array_vec_len, words_left, desk_limits}
+use Rattle.show_line.proofs.Terms.{pair_fault, pairs_in}
 use Rattle.show_line.proofs.pairs.keep_pairs.Given as goal
 
 -- the pairs so far have no fault, and are kept

@@ -1,6 +1,5 @@
-use Rattle.std.proofs.Common.{length}
-use Rattle.ascii_text.specs.LinesLeft.{words_left}
-use Rattle.show_line.specs.Pairs.{desk_limits as limits, pair_fault}
+use Rattle.show_line.proofs.Terms.{length, words_left, pair_fault}
+use Rattle.show_line.specs.Pairs.{desk_limits as limits}
 use Rattle.show_line.proofs.Lowest.{IsLowestSoFar}
 use Rattle.show_line.proofs.pairs.pair_fault.Given as goal
 

@@ -1,7 +1,4 @@
-use Rattle.std.proofs.Common.{◌≡◌, arith}
-use Rattle.std.specs.Result.{result_err}
-use Rattle.std.proofs.lemmas.Grind.{common_steps}
-use Rattle.show_line.specs.Faults.{number_fault}
+use Rattle.show_line.proofs.Terms.{◌≡◌, arith, result_err, common_steps, number_fault}
 use Rattle.show_line.proofs.Lowest.{err_of, lower_assoc, lower_none}
 use Rattle.show_line.proofs.triples.keep_triples.Goals as goal
 

@@ -1,7 +1,5 @@
-use Rattle.std.proofs.Common.{◌≡◌, ◌-◌, ◌++◌}
-use Rattle.arrayvec.specs.ArrayVec.{array_vec_len}
-use Rattle.ascii_text.specs.LinesLeft.{words_left}
-use Rattle.show_line.specs.Pairs.{desk_limits, triple_fault, triples_in}
+use Rattle.show_line.proofs.Terms.{◌≡◌, ◌-◌, ◌++◌, array_vec_len, words_left, desk_limits}
+use Rattle.show_line.proofs.Terms.{triple_fault, triples_in}
 use Rattle.show_line.proofs.triples.keep_triples.Given as goal
 
 -- the triples so far have no fault, and are kept

@@ -1,4 +1,4 @@
-use Rattle.std.proofs.Common.{arith}
+use Rattle.show_line.proofs.Terms.{arith}
 use Rattle.show_line.proofs.Lowest.{lower_assoc, lower_none}
 use Rattle.show_line.proofs.triples.triple_fault.Goals as goal
 

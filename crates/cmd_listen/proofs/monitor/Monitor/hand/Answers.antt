@@ -1,6 +1,4 @@
-use Rattle.std.proofs.Common.{◌∙◌, sym, ap, refl}
-use Rattle.std.proofs.lemmas.Result.{on_ok_weaker}
-use Rattle.cmd_listen.specs.Ignored.{with_one_more}
+use Rattle.cmd_listen.proofs.Terms.{◌∙◌, sym, ap, refl, on_ok_weaker, with_one_more}
 use Rattle.cmd_listen.proofs.Stood.{met_ignored, met_taken}
 use Rattle.cmd_listen.proofs.monitor.Monitor.hand.Goals as goal
 

@@ -1,7 +1,4 @@
-use Rattle.std.proofs.Common.{◌≡◌, refl}
-use Rattle.sacn_packet.specs.Reading.{front_packet}
-use Rattle.sacn_packet.specs.Wire.{HasPacket}
-use Rattle.cmd_listen.specs.Universe.{sources_with}
+use Rattle.cmd_listen.proofs.Terms.{◌≡◌, refl, front_packet, HasPacket, sources_with}
 use Rattle.cmd_listen.proofs.Results.{is_ok_of, if_ok_at}
 use Rattle.cmd_listen.proofs.monitor.Monitor.keep.Goals as goal
 

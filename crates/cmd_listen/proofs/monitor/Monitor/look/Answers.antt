@@ -1,4 +1,4 @@
-use Rattle.std.proofs.lemmas.Result.{on_ok_weaker}
+use Rattle.cmd_listen.proofs.Terms.{on_ok_weaker}
 use Rattle.cmd_listen.proofs.Stood.{looks, looks_not}
 use Rattle.cmd_listen.proofs.monitor.Monitor.look.Goals as goal
 

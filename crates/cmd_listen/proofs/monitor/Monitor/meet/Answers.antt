@@ -1,7 +1,4 @@
-use Rattle.std.proofs.Common.{◌≡◌, ◌∙◌, true, arith}
-use Rattle.std.specs.Prelude.{◌==◌}
-use Rattle.std.proofs.lemmas.Bool.Decides.{nat_tests}
-use Rattle.std.proofs.lemmas.Result.{on_ok_weaker}
+use Rattle.cmd_listen.proofs.Terms.{◌≡◌, ◌∙◌, true, arith, ◌==◌, nat_tests, on_ok_weaker}
 use Rattle.cmd_listen.proofs.monitor.Monitor.meet.Goals as goal
 
 pub returns : goal.returns

@@ -1,7 +1,4 @@
-use Rattle.std.proofs.Common.{◌∙◌, ap, refl, sym, ◌++◌}
-use Rattle.std.proofs.lemmas.Result.{on_ok_weaker}
-use Rattle.sacn_receiver.specs.Shown.{shown_slots}
-use Rattle.cmd_listen.specs.Sources.{line_head}
+use Rattle.cmd_listen.proofs.Terms.{◌∙◌, ap, refl, sym, ◌++◌, on_ok_weaker, shown_slots, line_head}
 use Rattle.cmd_listen.proofs.Results.{grown}
 use Rattle.cmd_listen.proofs.Stood.{look_other, look_same, no_later}
 use Rattle.cmd_listen.proofs.monitor.Monitor.show.Goals as goal

@@ -1,5 +1,4 @@
-use Rattle.std.proofs.lemmas.Result.{on_ok_weaker}
-use Rattle.cmd_listen.specs.Universe.{met_after, after_wait}
+use Rattle.cmd_listen.proofs.Terms.{on_ok_weaker, met_after, after_wait}
 use Rattle.cmd_listen.proofs.Texts.{three}
 use Rattle.cmd_listen.proofs.monitor.Monitor.take.Goals as goal
 

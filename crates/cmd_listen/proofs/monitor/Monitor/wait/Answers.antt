@@ -1,5 +1,4 @@
-use Rattle.std.proofs.Common.{◌∙◌, ap, refl}
-use Rattle.cmd_listen.specs.Sources.{here}
+use Rattle.cmd_listen.proofs.Terms.{◌∙◌, ap, refl, here}
 use Rattle.cmd_listen.proofs.Stood.{waits}
 use Rattle.cmd_listen.proofs.monitor.Monitor.wait.Goals as goal
 

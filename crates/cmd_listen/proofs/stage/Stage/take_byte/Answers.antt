@@ -1,7 +1,4 @@
-use Rattle.std.proofs.Common.{◌+◌, ◌∙◌, arith, rules}
-use Rattle.std.proofs.lemmas.Grind.{common_steps}
-use Rattle.cmd_listen.specs.Runs.{late}
-use Rattle.cmd_listen.specs.Watching.{watch_after}
+use Rattle.cmd_listen.proofs.Terms.{◌+◌, ◌∙◌, arith, rules, common_steps, late, watch_after}
 use Rattle.cmd_listen.proofs.Faults.{handed_on}
 use Rattle.cmd_listen.proofs.Taking.{ended_here, ends_line, left_by, line_stands, line_told}
 use Rattle.cmd_listen.proofs.stage.Stage.take_byte.Goals as goal

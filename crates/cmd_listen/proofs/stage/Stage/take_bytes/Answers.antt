@@ -1,5 +1,5 @@
-use Rattle.std.proofs.Common.{◌+◌, ◌++◌, ap, sym, ◌∙◌, take, drop, take-append-drop}
-use Rattle.std.proofs.lemmas.List.{drop_more, take_all, take_more}
+use Rattle.cmd_listen.proofs.Terms.{◌+◌, ◌++◌, ap, sym, ◌∙◌, take, drop, take-append-drop}
+use Rattle.cmd_listen.proofs.Terms.{drop_more, take_all, take_more}
 use Rattle.cmd_listen.proofs.Faults.{handed_on}
 use Rattle.cmd_listen.proofs.Taking.{ended_behind, taken_more}
 use Rattle.cmd_listen.proofs.stage.Stage.take_bytes.Goals as goal

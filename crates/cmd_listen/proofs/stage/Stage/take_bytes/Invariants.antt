@@ -1,5 +1,4 @@
-use Rattle.std.proofs.Common.{take}
-use Rattle.cmd_listen.specs.Stage.{WatchHasTaken}
+use Rattle.cmd_listen.proofs.Terms.{take, WatchHasTaken}
 use Rattle.cmd_listen.proofs.stage.Stage.take_bytes.Given as goal
 
 -- the bytes so far

@@ -1,7 +1,5 @@
-use Rattle.std.proofs.Common.{◌∙◌, ◌++◌, [], take, refl, sym, ap, inl, inr}
-use Rattle.devices.specs.Tape.{with_failure}
-use Rattle.devices.proofs.Tapes.{with_more-none}
-use Rattle.ascii_text.specs.Lines.{no_bytes}
+use Rattle.cmd_listen.proofs.Terms.{◌∙◌, ◌++◌, [], take, refl, sym, ap, inl, inr, with_failure}
+use Rattle.cmd_listen.proofs.Terms.{with_more-none, no_bytes}
 use Rattle.cmd_listen.proofs.Faults.{handed_on}
 use Rattle.cmd_listen.proofs.Taking.{taken_more, taken_none}
 use Rattle.cmd_listen.proofs.Whole.{closed_by, ends_behind, last_all, last_ends, pending_of}

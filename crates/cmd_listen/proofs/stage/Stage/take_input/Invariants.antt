@@ -1,6 +1,4 @@
-use Rattle.std.proofs.Common.{◌≡◌, ℕ, List}
-use Rattle.devices.specs.Tape.{with_more}
-use Rattle.cmd_listen.specs.Stage.{WatchHasTaken, watch_room}
+use Rattle.cmd_listen.proofs.Terms.{◌≡◌, ℕ, List, with_more, WatchHasTaken, watch_room}
 use Rattle.cmd_listen.proofs.stage.Stage.take_input.Given as goal
 
 -- the bytes so far

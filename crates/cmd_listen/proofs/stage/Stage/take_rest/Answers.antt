@@ -1,4 +1,4 @@
-use Rattle.std.proofs.Common.{◌∙◌, sym}
+use Rattle.cmd_listen.proofs.Terms.{◌∙◌, sym}
 use Rattle.cmd_listen.proofs.Taking.{rest_none}
 use Rattle.cmd_listen.proofs.stage.Stage.take_rest.Goals as goal
 

@@ -1,5 +1,4 @@
-use Rattle.std.proofs.Common.{◌≡◌, ◌∙◌, ap, sym, refl, length}
-use Rattle.std.proofs.lemmas.List.{take_at, length-map}
+use Rattle.cmd_listen.proofs.Terms.{◌≡◌, ◌∙◌, ap, sym, refl, length, take_at, length-map}
 use Rattle.cmd_listen.proofs.Lists.{zip_length}
 use Rattle.cmd_listen.proofs.Passing.{passes}
 use Rattle.cmd_listen.proofs.watching.Watching.pass.Goals as goal

@@ -1,5 +1,4 @@
-use Rattle.std.proofs.Common.{refl}
-use Rattle.std.proofs.lemmas.Result.{on_ok_weaker}
+use Rattle.cmd_listen.proofs.Terms.{refl, on_ok_weaker}
 use Rattle.cmd_listen.proofs.Passing.{arrives, falls}
 use Rattle.cmd_listen.proofs.watching.Watching.take.Goals as goal
 

@@ -1,7 +1,4 @@
-use Rattle.std.proofs.Common.{◌∙◌, arith, rules}
-use Rattle.std.proofs.lemmas.Grind.{common_steps}
-use Rattle.cmd_play.specs.Run.{emission, history_of}
-use Rattle.cmd_play.specs.Stage.{late}
+use Rattle.cmd_play.proofs.Terms.{◌∙◌, arith, rules, common_steps, emission, history_of, late}
 use Rattle.cmd_play.proofs.Faults.{handed_on}
 use Rattle.cmd_play.proofs.Running.{left_behind, ran_ended}
 use Rattle.cmd_play.proofs.Taking.{ended_here}

@@ -1,5 +1,5 @@
-use Rattle.std.proofs.Common.{◌+◌, ◌++◌, ap, sym, ◌∙◌, take, drop, take-append-drop}
-use Rattle.std.proofs.lemmas.List.{drop_more, take_all, take_more}
+use Rattle.cmd_play.proofs.Terms.{◌+◌, ◌++◌, ap, sym, ◌∙◌, take, drop, take-append-drop, drop_more}
+use Rattle.cmd_play.proofs.Terms.{take_all, take_more}
 use Rattle.cmd_play.proofs.Faults.{handed_on}
 use Rattle.cmd_play.proofs.Taking.{ended_behind, taken_more}
 use Rattle.cmd_play.proofs.stage.Stage.take_bytes.Goals as goal

@@ -1,6 +1,4 @@
-use Rattle.std.proofs.Common.{take}
-use Rattle.cmd_play.specs.Run.{emission}
-use Rattle.cmd_play.specs.Stage.{PlayHasTaken}
+use Rattle.cmd_play.proofs.Terms.{take, emission, PlayHasTaken}
 use Rattle.cmd_play.proofs.stage.Stage.take_bytes.Given as goal
 
 -- the bytes so far

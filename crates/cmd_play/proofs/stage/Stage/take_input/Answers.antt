@@ -1,7 +1,5 @@
-use Rattle.std.proofs.Common.{◌∙◌, ◌++◌, [], take, refl, sym, ap, inl, inr}
-use Rattle.devices.specs.Tape.{with_failure}
-use Rattle.devices.proofs.Tapes.{with_more-none}
-use Rattle.ascii_text.specs.Lines.{no_bytes}
+use Rattle.cmd_play.proofs.Terms.{◌∙◌, ◌++◌, [], take, refl, sym, ap, inl, inr, with_failure}
+use Rattle.cmd_play.proofs.Terms.{with_more-none, no_bytes}
 use Rattle.cmd_play.proofs.Faults.{handed_on}
 use Rattle.cmd_play.proofs.Playing.{closed_with, ends_behind, plays_all, ran_all}
 use Rattle.cmd_play.proofs.Playing.{read_end, read_more}

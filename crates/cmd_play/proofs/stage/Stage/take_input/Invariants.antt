@@ -1,7 +1,4 @@
-use Rattle.std.proofs.Common.{◌≡◌, ℕ, List}
-use Rattle.devices.specs.Tape.{with_more}
-use Rattle.cmd_play.specs.Run.{emission}
-use Rattle.cmd_play.specs.Stage.{PlayHasTaken, play_room}
+use Rattle.cmd_play.proofs.Terms.{◌≡◌, ℕ, List, with_more, emission, PlayHasTaken, play_room}
 use Rattle.cmd_play.proofs.stage.Stage.take_input.Given as goal
 
 -- the bytes so far

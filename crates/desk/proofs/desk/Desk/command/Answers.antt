@@ -1,4 +1,4 @@
-use Rattle.std.proofs.Common.{rules, sym, ◌∙◌}
+use Rattle.desk.proofs.Terms.{rules, sym, ◌∙◌}
 use Rattle.desk.proofs.Drawn.{both, floors_same}
 use Rattle.desk.proofs.desk.Desk.command.Goals as goal
 

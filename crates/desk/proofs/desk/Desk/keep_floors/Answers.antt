@@ -1,10 +1,5 @@
-use Rattle.std.proofs.Common.{◌≡◌, ℕ, IsTrue, ap, ◌∙◌, arith, rules}
-use Rattle.std.specs.Vec.{with_items}
-use Rattle.std.proofs.lemmas.List.{with_items_is}
-use Rattle.show.specs.Numbers.{is_channel}
-use Rattle.masters.specs.Merged.{merged_after}
-use Rattle.patch.specs.Frame.{listed_level}
-use Rattle.desk.specs.Played.{settings}
+use Rattle.desk.proofs.Terms.{◌≡◌, ℕ, IsTrue, ap, ◌∙◌, arith, rules, with_items, with_items_is}
+use Rattle.desk.proofs.Terms.{is_channel, merged_after, listed_level, settings}
 use Rattle.desk.proofs.desk.Desk.keep_floors.Goals as goal
 
 pub returns-then-not-self-clause-stands : goal.returns-then-not-self-clause-stands

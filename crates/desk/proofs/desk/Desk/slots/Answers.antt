@@ -1,8 +1,5 @@
-use Rattle.std.proofs.Common.{◌≡◌, ◌<◌, ◌-◌, ◌/◌, [], length, get_or, ap, ◌∙◌, arith}
-use Rattle.std.proofs.lemmas.Option.{get_or_from_slice_get}
-use Rattle.patch.specs.Frame.{frames_in}
-use Rattle.patch.proofs.InARow.{chunks_are}
-use Rattle.desk.specs.Meaning.{latest_frame}
+use Rattle.desk.proofs.Terms.{◌≡◌, ◌<◌, ◌-◌, ◌/◌, [], length, get_or, ap, ◌∙◌, arith}
+use Rattle.desk.proofs.Terms.{get_or_from_slice_get, frames_in, chunks_are, latest_frame}
 use Rattle.desk.proofs.Universes.{number_of}
 use Rattle.desk.proofs.desk.Desk.slots.Goals as goal
 

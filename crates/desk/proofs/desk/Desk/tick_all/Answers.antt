@@ -1,10 +1,6 @@
-use Rattle.std.proofs.Common.{◌≡◌, false, ap, IsTrue, length, arith}
-use Rattle.std.specs.Prelude.{All}
+use Rattle.desk.proofs.Terms.{◌≡◌, false, ap, IsTrue, length, arith, All, with_items_is, is_channel}
+use Rattle.desk.proofs.Terms.{frames_in, channel_level}
 use Rattle.std.specs.FinMap as maps
-use Rattle.std.proofs.lemmas.List.{with_items_is}
-use Rattle.show.specs.Numbers.{is_channel}
-use Rattle.patch.specs.Frame.{frames_in}
-use Rattle.desk.specs.Meaning.{channel_level}
 use Rattle.desk.proofs.LiveTick.{redrawn}
 use Rattle.desk.proofs.desk.Desk.tick_all.Goals as goal
 

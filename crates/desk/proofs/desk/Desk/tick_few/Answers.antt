@@ -1,9 +1,5 @@
-use Rattle.std.proofs.Common.{◌≡◌, ℕ, false, sym, ap, ◌∙◌, length, get_or, arith}
-use Rattle.std.proofs.lemmas.List.{with_items_is}
-use Rattle.masters.specs.Settings.{grand_after}
-use Rattle.patch.specs.Frame.{AreDrawn, frames_in}
-use Rattle.desk.specs.Played.{settings}
-use Rattle.desk.specs.Meaning.{channel_level}
+use Rattle.desk.proofs.Terms.{◌≡◌, ℕ, false, sym, ap, ◌∙◌, length, get_or, arith, with_items_is}
+use Rattle.desk.proofs.Terms.{grand_after, AreDrawn, frames_in, settings, channel_level}
 use Rattle.desk.proofs.Drawn.{drawn_same}
 use Rattle.desk.proofs.LiveTick.{redrawn, others_stay}
 use Rattle.desk.proofs.desk.Desk.tick_few.Goals as goal

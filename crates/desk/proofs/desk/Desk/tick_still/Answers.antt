@@ -1,9 +1,5 @@
-use Rattle.std.proofs.Common.{subst, rules}
-use Rattle.show.specs.Readers.{IsInRange}
-use Rattle.masters.specs.Settings.{grand_after}
-use Rattle.patch.specs.Frame.{frames_in}
-use Rattle.desk.specs.Played.{settings}
-use Rattle.desk.specs.Meaning.{channel_level}
+use Rattle.desk.proofs.Terms.{subst, rules, IsInRange, grand_after, frames_in, settings}
+use Rattle.desk.proofs.Terms.{channel_level}
 use Rattle.desk.proofs.Drawn.{drawn_alike}
 use Rattle.desk.proofs.LiveTick.{not_stopped, ticked, none_made_now, others_stay}
 use Rattle.desk.proofs.desk.Desk.tick_still.Goals as goal

@@ -1,8 +1,5 @@
-use Rattle.std.proofs.Common.{◌≡◌, ◌++◌, length, sym, subst, ap, ◌∙◌, IsTrue, arith}
-use Rattle.std.specs.Prelude.{All, IsOk}
-use Rattle.std.specs.List.Sorted.{IsStrictlyIncreasing}
-use Rattle.patch.specs.Frame.{is_base, is_universe}
-use Rattle.desk.specs.Meaning.{universe_numbers}
+use Rattle.desk.proofs.Terms.{◌≡◌, ◌++◌, length, sym, subst, ap, ◌∙◌, IsTrue, arith, All, IsOk}
+use Rattle.desk.proofs.Terms.{IsStrictlyIncreasing, is_base, is_universe, universe_numbers}
 use Rattle.desk.proofs.Universes.{numbers_in, numbers_rise, when_ok}
 use Rattle.desk.proofs.desk.Desk.universes.Goals as goal
 

@@ -1,5 +1,4 @@
-use Rattle.std.proofs.Common.{refl}
-use Rattle.live_input.specs.TypedView.{typed_kept}
+use Rattle.live_input.proofs.Terms.{refl, typed_kept}
 use Rattle.live_input.proofs.Answering.{first_answered, line_answered, none_answered, none_first}
 use Rattle.live_input.proofs.Answering.{some_first}
 use Rattle.live_input.proofs.live.LiveInput.next.Goals as goal

@@ -1,8 +1,5 @@
-use Rattle.std.proofs.Common.{arith, ◌∙◌, sym, ◌∷◌, ◌++◌, []}
-use Rattle.std.specs.Cmp.Lexicographic.{bytes_decides}
-use Rattle.live_input.specs.Night.{answers, asked, bytes_come, lines_answered}
-use Rattle.live_input.specs.Recall.{typed_again}
-use Rattle.live_input.specs.TypedView.{typed_kept}
+use Rattle.live_input.proofs.Terms.{arith, ◌∙◌, sym, ◌∷◌, ◌++◌, [], bytes_decides, answers, asked}
+use Rattle.live_input.proofs.Terms.{bytes_come, lines_answered, typed_again, typed_kept}
 use Rattle.live_input.proofs.Recalling.{left_none, no_call, none_given, one_more}
 use Rattle.live_input.proofs.Recalling.{equal, if_none, line_left, recalled_is, same_line, stays_typed}
 use Rattle.live_input.proofs.live.LiveInput.recall.Goals as goal

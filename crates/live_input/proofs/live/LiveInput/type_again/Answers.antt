@@ -1,5 +1,4 @@
-use Rattle.std.proofs.Common.{arith, length, drop, ◌-◌}
-use Rattle.std.proofs.lemmas.List.{length-take}
+use Rattle.live_input.proofs.Terms.{arith, length, drop, ◌-◌, length-take}
 use Rattle.live_input.proofs.live.LiveInput.type_again.Goals as goal
 
 pub take_bytes-requires-in-Order : goal.take_bytes-requires-in-Order

@@ -1,7 +1,4 @@
-use Rattle.std.proofs.Common.{subst, sym}
-use Rattle.ascii_text.specs.Text.{words_of}
-use Rattle.live_input.specs.declared.request.Request.{Request}
-use Rattle.live_input.specs.Keys.{without_keys}
+use Rattle.live_input.proofs.Terms.{subst, sym, words_of, Request, without_keys}
 use Rattle.live_input.proofs.Answering.{close_leaves, dim_leaves, line_asks}
 use Rattle.live_input.proofs.Asked.{Meets, request_meets}
 use Rattle.live_input.proofs.KeyLemmas.{keys_short}

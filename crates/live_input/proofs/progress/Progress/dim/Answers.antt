@@ -1,5 +1,4 @@
-use Rattle.std.proofs.Common.{arith, length-append}
-use Rattle.std.proofs.lemmas.Fmt.{length-decimal-le}
+use Rattle.live_input.proofs.Terms.{arith, length-append, length-decimal-le}
 use Rattle.live_input.proofs.progress.Progress.dim.Goals as goal
 
 pub given_line-requires-clause-short : goal.given_line-requires-clause-short

@@ -1,6 +1,4 @@
-use Rattle.std.proofs.Common.{◌-◌, ℕ, List, length}
-use Rattle.live_input.specs.Stands.{TypedStands}
-use Rattle.live_input.specs.TypedView.{typed_kept}
+use Rattle.live_input.proofs.Terms.{◌-◌, ℕ, List, length, TypedStands, typed_kept}
 use Rattle.live_input.proofs.typed.TypedLines.next_line.Given as goal
 
 -- what was taken so far ended no line that says something

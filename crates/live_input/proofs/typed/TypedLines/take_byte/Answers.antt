@@ -1,5 +1,4 @@
-use Rattle.std.proofs.Common.{◌+◌, true, false, [], drop}
-use Rattle.live_input.specs.TypedView.{typed_kept}
+use Rattle.live_input.proofs.Terms.{◌+◌, true, false, [], drop, typed_kept}
 use Rattle.live_input.proofs.TypedLemmas.{is_next, next_byte, stands_byte, stands_line}
 use Rattle.live_input.proofs.typed.TypedLines.take_byte.Goals as goal
 

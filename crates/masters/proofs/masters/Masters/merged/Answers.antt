@@ -1,7 +1,5 @@
-use Rattle.std.proofs.Common.{IsTrue, sym, subst, arith}
-use Rattle.show.specs.Numbers.{is_sub, is_group}
-use Rattle.masters.specs.Inside.{masters_view}
-use Rattle.masters.specs.Settings.{StandsFor, sub_after, group_after}
+use Rattle.masters.proofs.Terms.{IsTrue, sym, subst, arith, is_sub, is_group, masters_view}
+use Rattle.masters.proofs.Terms.{StandsFor, sub_after, group_after}
 use Rattle.masters.proofs.Greatest.{highest_is}
 use Rattle.masters.proofs.masters.Masters.merged.Goals as goal
 

@@ -1,6 +1,4 @@
-use Rattle.std.proofs.Common.{refl, arith}
-use Rattle.std.proofs.lemmas.Bool.Decides.{nat_tests}
-use Rattle.std.proofs.lemmas.List.{get_or-replicate}
+use Rattle.masters.proofs.Terms.{refl, arith, nat_tests, get_or-replicate}
 use Rattle.masters.proofs.masters.Masters.new.Goals as goal
 
 pub returns : goal.returns

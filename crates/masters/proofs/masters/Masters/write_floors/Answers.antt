@@ -1,10 +1,6 @@
-use Rattle.std.proofs.Common.{◌≡◌, ℕ, ◌-◌, ◌+◌, ◌<◌, IsTrue, get_or, sym, subst, ap, ◌∙◌}
-use Rattle.std.proofs.Common.{arith}
-use Rattle.std.proofs.lemmas.List.{get_or-replicate}
-use Rattle.show.specs.Numbers.{is_sub, is_group}
-use Rattle.masters.specs.Inside.{masters_view}
-use Rattle.masters.specs.Merged.{merged_after}
-use Rattle.masters.specs.Settings.{StandsFor, sub_after, group_after}
+use Rattle.masters.proofs.Terms.{◌≡◌, ℕ, ◌-◌, ◌+◌, ◌<◌, IsTrue, get_or, sym, subst, ap, ◌∙◌, arith}
+use Rattle.masters.proofs.Terms.{get_or-replicate, is_sub, is_group, masters_view, merged_after}
+use Rattle.masters.proofs.Terms.{StandsFor, sub_after, group_after}
 use Rattle.masters.proofs.Greatest.{highest_is}
 use Rattle.masters.proofs.Raised.{in_place}
 use Rattle.masters.proofs.masters.Masters.write_floors.Goals as goal

@@ -1,6 +1,5 @@
-use Rattle.std.proofs.Common.{◌≡◌, ℕ, ◌+◌, ◌-◌, ◌<◌, subst, ap, ◌∙◌, arith}
-use Rattle.patch.specs.Frame.{listed_level, dimmer_slot}
-use Rattle.patch.specs.Sources.{AreSources}
+use Rattle.patch.proofs.Terms.{◌≡◌, ℕ, ◌+◌, ◌-◌, ◌<◌, subst, ap, ◌∙◌, arith, listed_level}
+use Rattle.patch.proofs.Terms.{dimmer_slot, AreSources}
 use Rattle.patch.proofs.Redrawn.{dimmer_range, drawn_from_slots}
 use Rattle.patch.proofs.Sourced.{slot_from_sources}
 use Rattle.patch.proofs.rig.Rig.draw.Goals as goal

@@ -1,10 +1,5 @@
-use Rattle.std.proofs.Common.{ℕ, ◌+◌, ◌*◌, refl, arith}
-use Rattle.std.specs.Ordering.{nat_cmp}
-use Rattle.std.specs.Cmp.{nat_cmp_total}
-use Rattle.std.proofs.lemmas.List.{length-set}
-use Rattle.show.specs.Readers.{slot_of}
-use Rattle.show.proofs.Sorted.{get_is}
-use Rattle.patch.specs.Frame.{listed_level, dimmer_slot}
+use Rattle.patch.proofs.Terms.{ℕ, ◌+◌, ◌*◌, refl, arith, nat_cmp, nat_cmp_total, length-set}
+use Rattle.patch.proofs.Terms.{slot_of, get_is, listed_level, dimmer_slot}
 use Rattle.patch.proofs.Frames.{frame_is, find_high, dark_at_first, slots_more}
 use Rattle.patch.proofs.rig.Rig.frame.Goals as goal
 

@@ -1,9 +1,5 @@
-use Rattle.std.proofs.Common.{◌≡◌, ℕ, ◌+◌, ◌<◌, get_or, take, length}
-use Rattle.std.specs.Option.{option_map_or}
-use Rattle.std.specs.Ordering.{nat_cmp}
-use Rattle.std.specs.FinMap.{find}
-use Rattle.show.specs.Readers.{slot_of}
-use Rattle.patch.specs.Frame.{listed_level}
+use Rattle.patch.proofs.Terms.{◌≡◌, ℕ, ◌+◌, ◌<◌, get_or, take, length, option_map_or, nat_cmp, find}
+use Rattle.patch.proofs.Terms.{slot_of, listed_level}
 use Rattle.patch.proofs.rig.Rig.frame.Given as goal
 
 -- each slot is that of its dimmer in the part of the patch that is done

@@ -1,16 +1,7 @@
-use Rattle.std.proofs.Common.{◌≡◌, ℕ, ◌+◌, List, IsTrue, length, refl, sym, ap, ◌∙◌, arith}
-use Rattle.std.specs.Vec.{with_items}
-use Rattle.std.proofs.lemmas.List.{with_items_is}
-use Rattle.std.proofs.lemmas.List.Elements.{All-map}
-use Rattle.std.proofs.lemmas.List.Sorted.{length_permutation}
-use Rattle.show.proofs.Ranges.{len_fits}
-use Rattle.patch.specs.Sources.{AreSources}
-use Rattle.std.specs.Prelude.{All}
-use Rattle.std.specs.Ordering.{nat_cmp}
+use Rattle.patch.proofs.Terms.{◌≡◌, ℕ, ◌+◌, List, IsTrue, length, refl, sym, ap, ◌∙◌, arith}
+use Rattle.patch.proofs.Terms.{with_items, with_items_is, All-map, length_permutation, len_fits}
+use Rattle.patch.proofs.Terms.{AreSources, All, nat_cmp, is_dimmer, PatchMap, to_true}
 use Rattle.std.specs.FinMap as map
-use Rattle.show.specs.Numbers.{is_dimmer}
-use Rattle.show.specs.Tables.{PatchMap}
-use Rattle.show.proofs.Sorted.{to_true}
 use Rattle.patch.proofs.Frames.{from_sorted-entries}
 use Rattle.patch.proofs.rig.Rig.new.Goals as goal
 

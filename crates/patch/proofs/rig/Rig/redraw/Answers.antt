@@ -1,12 +1,6 @@
-use Rattle.std.proofs.Common.{refl, ◌≡◌, IsTrue, ◌∙◌, arith}
+use Rattle.patch.proofs.Terms.{refl, ◌≡◌, IsTrue, ◌∙◌, arith, nat_cmp, get_or_default}
+use Rattle.patch.proofs.Terms.{All-permutation, is_dimmer, PatchMap, entries_are, nat_cmp_total}
 use Rattle.std.specs.FinMap as map
-use Rattle.std.specs.Ordering.{nat_cmp}
-use Rattle.std.proofs.lemmas.List.{get_or_default}
-use Rattle.std.proofs.lemmas.List.Sorted.{All-permutation}
-use Rattle.show.specs.Numbers.{is_dimmer}
-use Rattle.show.specs.Tables.{PatchMap}
-use Rattle.show.proofs.Sorted.{entries_are}
-use Rattle.std.specs.Cmp.{nat_cmp_total}
 use Rattle.patch.proofs.Indexed.{begins_rise}
 use Rattle.patch.proofs.Redrawn.{slots_from_drawn, drawn_from_slots}
 use Rattle.patch.proofs.rig.Rig.redraw.Goals as goal

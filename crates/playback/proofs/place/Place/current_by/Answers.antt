@@ -1,5 +1,4 @@
-use Rattle.std.proofs.Common.{◌≡◌, refl, sym, ◌∙◌, false, Option, None, Some, is_some}
-use Rattle.std.specs.Prelude.{IfNone}
+use Rattle.playback.proofs.Terms.{◌≡◌, refl, sym, ◌∙◌, false, Option, None, Some, is_some, IfNone}
 use Rattle.playback.proofs.place.Place.current_by.Goals as goal
 
 on_none : {A P : Type 0} (o : Option A) → is_some o ≡ false → IfNone o P → P

@@ -1,6 +1,4 @@
-use Rattle.std.proofs.Common.{◌≡◌, Bool, List}
-use Rattle.playback.specs.Placed.{IsPlaceAfter, cues_above}
-use Rattle.playback.specs.Played.{Move, moves_by}
+use Rattle.playback.proofs.Terms.{◌≡◌, Bool, List, IsPlaceAfter, cues_above, Move, moves_by}
 use Rattle.playback.proofs.place.Place.current_by.Given as goal
 
 -- at the place after some of the moves that are due

@@ -1,5 +1,4 @@
-use Rattle.std.proofs.Common.{sym, ◌∙◌, rules}
-use Rattle.std.specs.Prelude.{unwrap_or}
+use Rattle.playback.proofs.Terms.{sym, ◌∙◌, rules, unwrap_or}
 use Rattle.playback.proofs.Found.{contains_key-cue_above}
 use Rattle.playback.proofs.Due.{count_above-found}
 use Rattle.playback.proofs.Places.{moved, still}

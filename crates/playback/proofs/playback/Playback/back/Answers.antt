@@ -1,7 +1,4 @@
-use Rattle.std.proofs.Common.{◌≡◌, Some, rules}
-use Rattle.show.specs.Readers.{cue_below}
-use Rattle.playback.specs.declared.playback.NoMove.TheVariants.{AtStart}
-use Rattle.playback.specs.Played.{back_target}
+use Rattle.playback.proofs.Terms.{◌≡◌, Some, rules, cue_below, AtStart, back_target}
 use Rattle.playback.proofs.Found.{contains_key-cue_below, steps_to}
 use Rattle.playback.proofs.playback.Playback.back.Goals as goal
 

@@ -1,6 +1,4 @@
-use Rattle.std.proofs.Common.{◌≡◌, Some, rules}
-use Rattle.playback.specs.declared.playback.NoMove.TheVariants.{AtEnd}
-use Rattle.playback.specs.Played.{go_target}
+use Rattle.playback.proofs.Terms.{◌≡◌, Some, rules, AtEnd, go_target}
 use Rattle.playback.proofs.Found.{contains_key-cue_above, steps_to}
 use Rattle.playback.proofs.playback.Playback.go.Goals as goal
 

@@ -1,4 +1,4 @@
-use Rattle.std.proofs.Common.{◌∙◌}
+use Rattle.playback.proofs.Terms.{◌∙◌}
 use Rattle.playback.proofs.Levels.{level_after-map}
 use Rattle.playback.proofs.playback.Playback.level.Goals as goal
 

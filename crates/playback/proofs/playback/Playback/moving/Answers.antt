@@ -1,5 +1,4 @@
-use Rattle.std.proofs.lemmas.Option.{IfSome_then}
-use Rattle.std.proofs.Common.{arith}
+use Rattle.playback.proofs.Terms.{IfSome_then, arith}
 use Rattle.playback.proofs.Levels.{level_after-map}
 use Rattle.playback.proofs.Look.{channel_range}
 use Rattle.playback.proofs.playback.Playback.moving.Goals as goal

@@ -1,5 +1,5 @@
-use Rattle.std.proofs.Common.{ap, ◌∙◌}
-use Rattle.std.specs.Prelude.{find, reverse, nat_lt, map as map_list}
+use Rattle.show.proofs.Terms.{ap, ◌∙◌, reverse, nat_lt}
+use Rattle.std.specs.Prelude.{find, map as map_list}
 use Rattle.show.proofs.Sorted.{map-reverse}
 use Rattle.show.proofs.cue_table.CueTable.before.Goals as goal
 

@@ -1,5 +1,4 @@
-use Rattle.std.proofs.Common.{IsTrue, ℕ}
-use Rattle.show.specs.Numbers.{is_channel}
+use Rattle.show.proofs.Terms.{IsTrue, ℕ, is_channel}
 use Rattle.show.proofs.Ranges.{none_in}
 use Rattle.show.proofs.levels.Levels.new.Goals as goal
 

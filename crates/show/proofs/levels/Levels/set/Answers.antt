@@ -1,5 +1,4 @@
-use Rattle.std.proofs.Common.{IsTrue}
-use Rattle.show.specs.Numbers.{is_channel}
+use Rattle.show.proofs.Terms.{IsTrue, is_channel}
 use Rattle.show.proofs.Ranges.{keys-insert}
 use Rattle.show.proofs.levels.Levels.set.Goals as goal
 

@@ -1,4 +1,4 @@
-use Rattle.show.specs.Inside.{show_view}
+use Rattle.show.proofs.Terms.{show_view}
 use Rattle.show.proofs.InRange.{no_cues_in_range}
 use Rattle.show.proofs.show.Show.clear_cues.Goals as goal
 

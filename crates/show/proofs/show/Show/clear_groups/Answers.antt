@@ -1,8 +1,5 @@
-use Rattle.std.proofs.Common.{IsTrue}
+use Rattle.show.proofs.Terms.{IsTrue, is_group, LevelMap, show_view}
 use Rattle.std.specs.FinMap as map
-use Rattle.show.specs.Numbers.{is_group}
-use Rattle.show.specs.Tables.{LevelMap}
-use Rattle.show.specs.Inside.{show_view}
 use Rattle.show.proofs.Ranges.{none_in}
 use Rattle.show.proofs.InRange.{masters_in_range}
 use Rattle.show.proofs.show.Show.clear_groups.Goals as goal

@@ -1,6 +1,5 @@
-use Rattle.std.proofs.Common.{◌≤◌, arith}
+use Rattle.show.proofs.Terms.{◌≤◌, arith, common_steps}
 use Rattle.std.specs.FinMap as map
-use Rattle.std.proofs.lemmas.Grind.{common_steps}
 use Rattle.show.proofs.Ranges.{len_fits}
 use Rattle.show.proofs.show.Show.counts.Goals as goal
 

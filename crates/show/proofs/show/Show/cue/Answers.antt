@@ -1,4 +1,4 @@
-use Rattle.show.specs.Readers.{HasTimes}
+use Rattle.show.proofs.Terms.{HasTimes}
 use Rattle.show.proofs.Ranges.{value_in}
 use Rattle.show.proofs.show.Show.cue.Goals as goal
 

@@ -1,5 +1,4 @@
-use Rattle.show.specs.Builders.{with_bytes}
-use Rattle.show.specs.Inside.{show_view}
+use Rattle.show.proofs.Terms.{with_bytes, show_view}
 use Rattle.show.proofs.Changes.{changed_listed}
 use Rattle.show.proofs.InRange.{changed_group_in_range}
 use Rattle.show.proofs.show.Show.group_levels.Goals as goal

@@ -1,10 +1,6 @@
-use Rattle.std.proofs.Common.{◌≡◌, ℕ, ◌+◌, ◌*◌, ◌<◌, List, length, get_or, refl, sym, ◌∙◌, arith}
-use Rattle.std.specs.Prelude.{map}
-use Rattle.std.specs.List.{range_with_len}
-use Rattle.std.proofs.lemmas.List.{ext_get_or, length-set}
-use Rattle.std.proofs.lemmas.List.Edits.{fill_by_more}
-use Rattle.std.proofs.lemmas.List.FromFn.{length-map-range_with_len, get_or-map-range_with_len}
-use Rattle.show.specs.Readers.{look_slot}
+use Rattle.show.proofs.Terms.{◌≡◌, ℕ, ◌+◌, ◌*◌, ◌<◌, List, length, get_or, refl, sym, ◌∙◌, arith}
+use Rattle.show.proofs.Terms.{map, range_with_len, ext_get_or, length-set, fill_by_more}
+use Rattle.show.proofs.Terms.{length-map-range_with_len, get_or-map-range_with_len, look_slot}
 use Rattle.show.proofs.show.Show.look_slots.Goals as goal
 
 frame_is : (f : ℕ → ℕ) (a n : ℕ) (xs : List ℕ) → length xs ≡ n

@@ -1,5 +1,4 @@
-use Rattle.std.proofs.Common.{◌≡◌, ℕ, ◌+◌, ◌*◌, ◌<◌, length, get_or}
-use Rattle.show.specs.Readers.{look_slot}
+use Rattle.show.proofs.Terms.{◌≡◌, ℕ, ◌+◌, ◌*◌, ◌<◌, length, get_or, look_slot}
 use Rattle.show.proofs.show.Show.look_slots.Given as goal
 
 abbrev pub invariant-loop-place : goal.invariant-loop-place

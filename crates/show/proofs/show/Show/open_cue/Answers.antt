@@ -1,7 +1,4 @@
-use Rattle.std.proofs.Common.{◌≡◌, true, ap, ◌∙◌, arith}
-use Rattle.std.proofs.lemmas.Grind.{common_steps}
-use Rattle.show.specs.Builders.{can_open}
-use Rattle.show.specs.Inside.{show_view}
+use Rattle.show.proofs.Terms.{◌≡◌, true, ap, ◌∙◌, arith, common_steps, can_open, show_view}
 use Rattle.show.proofs.InRange.{opened_cue_in_range}
 use Rattle.show.proofs.show.Show.open_cue.Goals as goal
 

@@ -1,8 +1,5 @@
-use Rattle.std.proofs.Common.{◌≡◌, true, IsTrue, arith}
-use Rattle.std.proofs.lemmas.Grind.{common_steps}
-use Rattle.show.specs.Numbers.{is_group}
-use Rattle.show.specs.Builders.{opened_in}
-use Rattle.show.specs.Inside.{show_view}
+use Rattle.show.proofs.Terms.{◌≡◌, true, IsTrue, arith, common_steps, is_group, opened_in}
+use Rattle.show.proofs.Terms.{show_view}
 use Rattle.show.proofs.InRange.{masters_in_range, opened_in_range}
 use Rattle.show.proofs.show.Show.open_group.Goals as goal
 

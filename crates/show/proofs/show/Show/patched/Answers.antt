@@ -1,4 +1,4 @@
-use Rattle.show.specs.Inside.{show_view}
+use Rattle.show.proofs.Terms.{show_view}
 use Rattle.show.proofs.InRange.{found_in_range}
 use Rattle.show.proofs.show.Show.patched.Goals as goal
 

@@ -1,5 +1,4 @@
-use Rattle.std.proofs.Common.{Some, rules}
-use Rattle.show.specs.Inside.{show_view}
+use Rattle.show.proofs.Terms.{Some, rules, show_view}
 use Rattle.show.proofs.InRange.{changed_cue_in_range}
 use Rattle.show.proofs.show.Show.set_down.Goals as goal
 

@@ -1,7 +1,4 @@
-use Rattle.std.proofs.Common.{◌≡◌, true, arith}
-use Rattle.std.proofs.lemmas.Grind.{common_steps}
-use Rattle.show.specs.Builders.{can_patch}
-use Rattle.show.specs.Inside.{show_view}
+use Rattle.show.proofs.Terms.{◌≡◌, true, arith, common_steps, can_patch, show_view}
 use Rattle.show.proofs.InRange.{patched_in_range}
 use Rattle.show.proofs.show.Show.set_patch.Goals as goal
 

@@ -1,8 +1,4 @@
-use Rattle.std.proofs.Common.{◌≡◌, true, arith}
-use Rattle.std.specs.List.{list_all}
-use Rattle.std.proofs.lemmas.Grind.{common_steps}
-use Rattle.show.specs.Builders.{can_patch}
-use Rattle.show.specs.Inside.{show_view}
+use Rattle.show.proofs.Terms.{◌≡◌, true, arith, list_all, common_steps, can_patch, show_view}
 use Rattle.show.proofs.InRange.{patches_in_range}
 use Rattle.show.proofs.show.Show.set_patches.Goals as goal
 

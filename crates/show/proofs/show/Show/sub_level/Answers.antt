@@ -1,5 +1,5 @@
 use Rattle.std.specs.FinMap as map
-use Rattle.show.specs.Inside.{show_view}
+use Rattle.show.proofs.Terms.{show_view}
 use Rattle.show.proofs.InRange.{changed_sub_in_range}
 use Rattle.show.proofs.show.Show.sub_level.Goals as goal
 

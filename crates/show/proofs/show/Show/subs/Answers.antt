@@ -1,6 +1,5 @@
-use Rattle.std.proofs.Common.{IsTrue}
+use Rattle.show.proofs.Terms.{IsTrue, is_sub}
 use Rattle.std.specs.FinMap as map
-use Rattle.show.specs.Numbers.{is_sub}
 use Rattle.show.proofs.Ranges.{entries_from_keys}
 use Rattle.show.proofs.show.Show.subs.Goals as goal
 

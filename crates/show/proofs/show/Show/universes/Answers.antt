@@ -1,10 +1,6 @@
-use Rattle.std.proofs.Common.{◌≡◌, ℕ, zero, suc, ◌+◌, Bool, cond, [], ◌∷◌, ◌++◌, refl, ap, ◌∙◌}
-use Rattle.std.proofs.Common.{arith}
-use Rattle.std.specs.Prelude.{filter}
-use Rattle.std.specs.List.{range_with_len}
-use Rattle.std.proofs.lemmas.Grind.{common_steps}
-use Rattle.std.proofs.lemmas.List.Elements.{filter-append}
-use Rattle.show.specs.Readers.{has_dimmer_in}
+use Rattle.show.proofs.Terms.{◌≡◌, ℕ, zero, suc, ◌+◌, Bool, cond, [], ◌∷◌, ◌++◌, refl, ap, ◌∙◌}
+use Rattle.show.proofs.Terms.{arith, filter, range_with_len, common_steps, filter-append}
+use Rattle.show.proofs.Terms.{has_dimmer_in}
 use Rattle.show.proofs.show.Show.universes.Goals as goal
 use Rattle.show.proofs.show.Show.universes.Goals.{then-has_dimmer_in, else-has_dimmer_in}
 

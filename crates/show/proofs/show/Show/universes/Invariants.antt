@@ -1,8 +1,4 @@
-use Rattle.std.proofs.Common.{◌≡◌, ◌≤◌}
-use Rattle.std.specs.Prelude.{filter}
-use Rattle.std.specs.List.{range_with_len}
-use Rattle.arrayvec.specs.ArrayVec.{array_vec_len}
-use Rattle.show.specs.Readers.{has_dimmer_in}
+use Rattle.show.proofs.Terms.{◌≡◌, ◌≤◌, filter, range_with_len, array_vec_len, has_dimmer_in}
 use Rattle.show.proofs.show.Show.universes.Given as goal
 
 abbrev pub invariant-loop-ordinal : goal.invariant-loop-ordinal

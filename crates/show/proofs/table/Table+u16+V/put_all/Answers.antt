@@ -1,7 +1,5 @@
-use Rattle.std.proofs.Common.{ap, ◌∙◌}
+use Rattle.show.proofs.Terms.{ap, ◌∙◌, map-id, with_all}
 use Rattle.std.specs.FinMap as map
-use Rattle.std.proofs.lemmas.List.{map-id}
-use Rattle.show.specs.Many.{with_all}
 use Rattle.show.proofs.Entries.{sorted_with_entries, from_sorted-with_entries}
 use Rattle.show.proofs.Tables.{own_seen}
 use Rattle.show.proofs.table.Table+u16+V.put_all.Goals as goal

@@ -1,8 +1,5 @@
-use Rattle.std.proofs.Common.{ap, ◌∙◌}
-use Rattle.std.specs.Ordering.{nat_cmp}
-use Rattle.std.specs.Cmp.{nat_cmp_total}
+use Rattle.show.proofs.Terms.{ap, ◌∙◌, nat_cmp, nat_cmp_total, map-id}
 use Rattle.std.specs.FinMap as map
-use Rattle.std.proofs.lemmas.List.{map-id}
 use Rattle.show.proofs.Removed.{sorted_without, from_sorted-without}
 use Rattle.show.proofs.Tables.{own_seen}
 use Rattle.show.proofs.table.Table+u16+V.remove.Goals as goal

@@ -1,4 +1,4 @@
-use Rattle.std.proofs.Common.{ap, inr}
+use Rattle.show.proofs.Terms.{ap, inr}
 use Rattle.show.proofs.Tables.{value_seen, none_seen, sorted_set, set_seen}
 use Rattle.show.proofs.table.Table.get_mut.Goals as goal
 

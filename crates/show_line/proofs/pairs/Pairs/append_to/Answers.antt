@@ -1,10 +1,7 @@
-use Rattle.std.proofs.Common.{arith, ◌≡◌, ◌∙◌, ◌++◌, ◌-◌, List, ℕ, [], ap, drop, length}
-use Rattle.std.proofs.Common.{append_assoc, refl, sym, take}
-use Rattle.std.proofs.Math.Seq.{drop-length, take-append_seam}
-use Rattle.std.proofs.lemmas.List.{length-append, length-drop, nil_from_length, take_all}
-use Rattle.std.proofs.lemmas.Grind.{common_steps}
-use Rattle.show_line.specs.Pairs.{pairs_in}
-use Rattle.ascii_text.specs.LinesLeft.{words_left}
+use Rattle.show_line.proofs.Terms.{arith, ◌≡◌, ◌∙◌, ◌++◌, ◌-◌, List, ℕ, [], ap, drop, length}
+use Rattle.show_line.proofs.Terms.{append_assoc, refl, sym, take, drop-length, take-append_seam}
+use Rattle.show_line.proofs.Terms.{length-append, length-drop, nil_from_length, take_all}
+use Rattle.show_line.proofs.Terms.{common_steps, pairs_in, words_left}
 use Rattle.show_line.proofs.pairs.Pairs.append_to.Goals as goal
 
 pub loop-pair-init : goal.loop-pair-init

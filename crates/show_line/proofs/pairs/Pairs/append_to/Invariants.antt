@@ -1,4 +1,4 @@
-use Rattle.std.proofs.Common.{◌≡◌, ◌++◌, ◌≤◌, [], length, take}
+use Rattle.show_line.proofs.Terms.{◌≡◌, ◌++◌, ◌≤◌, [], length, take}
 use Rattle.show_line.proofs.pairs.Pairs.append_to.Given as goal
 
 -- the list has what it had, and behind it the pairs so far

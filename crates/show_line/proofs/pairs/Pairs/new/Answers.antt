@@ -1,5 +1,4 @@
-use Rattle.std.proofs.Common.{arith}
-use Rattle.std.proofs.lemmas.Grind.{common_steps}
+use Rattle.show_line.proofs.Terms.{arith, common_steps}
 use Rattle.show_line.proofs.Lowest.{lower_both}
 use Rattle.show_line.proofs.pairs.Pairs.new.Goals as goal
 

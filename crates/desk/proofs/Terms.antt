@@ -1,0 +1,49 @@
+-- The words of std, of the crates below and of the definitions that several proofs here name.
+pub use Rattle.std.proofs.Common.{◌≡◌, ℕ, ◌+◌, ◌*◌, ◌<◌, Bool, true, false, ◌&&◌, IsTrue, List, []}
+pub use Rattle.std.proofs.Common.{◌∷◌, length, Option, Some, None, is_some, refl, subst, ap, ◌∙◌}
+pub use Rattle.std.proofs.Common.{arith, ◌≤◌, sym, ◌++◌, ◌-◌, get_or, rules, ◌/◌, take, lit<}
+pub use Rattle.std.specs.Prelude.{All, IfSome, max, map, replicate, slice_get, slice_index}
+pub use Rattle.std.specs.Prelude.{Contains, Result, Ok, Err, IsOk, OnOk}
+pub use Rattle.std.specs.List.{range_with_len}
+pub use Rattle.std.specs.Option.{option_map_or}
+pub use Rattle.std.proofs.lemmas.List.{length-replicate, get_or-replicate, get_or-map, length-map}
+pub use Rattle.std.proofs.lemmas.List.{with_items_is, take_all, take_more, map-append}
+pub use Rattle.std.proofs.lemmas.List.{length-take-le}
+pub use Rattle.std.proofs.lemmas.Option.{slice_get-get_or, get_or_from_slice_get}
+pub use Rattle.show.specs.Numbers.{is_channel, AreLevels}
+pub use Rattle.show.specs.Readers.{slot_of, has_dimmer_in, patch_ordinals, IsInRange}
+pub use Rattle.show.specs.Tables.{PatchMap, Tables, LevelMap}
+pub use Rattle.show.proofs.Ranges.{value_in}
+pub use Rattle.playback.specs.Played.{playback_level, Move, with_due, moves_by}
+pub use Rattle.masters.specs.Merged.{greatest_in, merged_after}
+pub use Rattle.masters.specs.Settings.{sub_after, group_after, grand_after, Setting}
+pub use Rattle.patch.specs.Frame.{listed_level, dimmer_slot, frame_of, AreDrawn, is_base}
+pub use Rattle.patch.specs.Frame.{is_universe, frames_in}
+pub use Rattle.desk.specs.declared.command.Command.{Command}
+pub use Rattle.desk.specs.declared.command.Command.TheVariants.{Go, Back, Goto, GotoIn, Sub, Group}
+pub use Rattle.desk.specs.declared.command.Command.TheVariants.{Master, End}
+pub use Rattle.std.proofs.lemmas.Bool.{false≢true, cond_both}
+pub use Rattle.desk.specs.Stands.{keeps_floors, StandsFor}
+pub use Rattle.desk.specs.Meaning.{dark, channel_level, frame, latest_frame, universe_numbers}
+pub use Rattle.playback.proofs.Due.{with_due-again, with_due-none}
+pub use Rattle.desk.specs.Played.{Act, order, tick, ticks_since_end, moves, settings, Call}
+pub use Rattle.std.proofs.lemmas.List.FromFn.{length-map-range_with_len, get_or-map-range_with_len}
+pub use Rattle.std.proofs.lemmas.List.FromFn.{length-range_with_len, get_or-range_with_len}
+pub use Rattle.fade.specs.Level.{Start, split_fade}
+pub use Rattle.playback.specs.Playing.{PlaybackState}
+pub use Rattle.playback.proofs.Places.{none_made, is_by-before, move_to}
+pub use Rattle.desk.specs.DeskState.{DeskState}
+pub use Rattle.desk.specs.Ticks.{IsKeptBut}
+pub use Rattle.std.specs.Ordering.{nat_cmp}
+pub use Rattle.show.specs.declared.cue.CueData.{CueData}
+pub use Rattle.std.specs.List.Sorted.{IsStrictlyIncreasing}
+pub use Rattle.std.proofs.lemmas.Bool.Decides.{nat_tests}
+pub use Rattle.std.proofs.lemmas.List.Elements.{All-map, All-filter, All-contains, All-get_or}
+pub use Rattle.std.proofs.lemmas.List.Kept.{IsStrictlyIncreasing-filter}
+pub use Rattle.std.proofs.lemmas.List.Sums.{AllPass-from_list_all}
+pub use Rattle.show.proofs.Sorted.{and_right, from_true, to_true}
+pub use Rattle.std.specs.Vec.{with_items}
+pub use Rattle.patch.proofs.InARow.{dark_in_a_row, chunks_are}
+pub use borrow.Author.Rules.{scaled_Fits}
+pub use Rattle.patch.proofs.Redrawn.{channel_range}
+pub use Rattle.std.proofs.lemmas.Grind.{common_steps}
