@@ -46,8 +46,8 @@ impl Form {
                 "an address is four numbers, as 10.0.0.7, with or without a port, as 10.0.0.7:5568"
             }
             Form::Target => {
-                "a target is an address, as 10.0.0.7 or 10.0.0.7:5568, with or without its universes, \
-                    as 3=10.0.0.7 or 1-8=10.0.0.7"
+                "a target is an address, as 10.0.0.7 or 10.0.0.7:5568, \
+                    with or without its universes, as 3=10.0.0.7 or 1-8=10.0.0.7"
             }
             Form::Few => "a night has at most 64 targets",
             Form::Priority => "a priority is a number from 0 to 200",
