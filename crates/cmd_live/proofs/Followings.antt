@@ -13,11 +13,11 @@ use Rattle.night_record.specs.declared.asked.Asked.TheVariants as asked
 use Rattle.cmd_live.specs.declared.main_console.Led.{Led}
 use Rattle.cmd_live.specs.declared.main_console.Led.TheVariants.{End}
 use Rattle.cmd_live.specs.Backup.{AreDone, FollowsAll, comments_in, deeds_done, deeds_due}
-use Rattle.cmd_live.specs.Backup.{has_begun, is_comment, kept_lines, led_by_asked}
+use Rattle.cmd_live.specs.Backup.{following_began, is_comment, kept_lines, led_by_asked}
 use Rattle.cmd_live.specs.Backup.{lines_to_follow, missing_lines, deeds_for_asked}
 use Rattle.cmd_live.specs.Backup.{told_by_main}
 use Rattle.cmd_live.specs.Backup.{told_more}
-use Rattle.cmd_live.specs.Spare.{IsTakenUp, has_had_lock, lines_given, told_by_record}
+use Rattle.cmd_live.specs.Spare.{IsTakenUp, has_had_lock, given_by_record, told_by_record}
 use Rattle.cmd_live.specs.Told.{lines_told}
 use Rattle.cmd_live.specs.declared.main_watch.MainDeed.{MainDeed}
 use Rattle.cmd_live.specs.declared.main_watch.MainDeed.TheVariants.{Kept, Missing, Refused}
@@ -61,7 +61,7 @@ told_are_kept patience (event.Typed line ∷ older) =
     asks_no_line (asked_by (words_of line.items)) (told_by_main patience older)
     ∙ told_are_kept patience older
 told_are_kept patience (event.Looked false ∷ older) =
-    no_end_is_no_line (has_begun older) (told_by_main patience older)
+    no_end_is_no_line (following_began older) (told_by_main patience older)
     ∙ told_are_kept patience older
 told_are_kept patience (event.Looked true ∷ older) = told_are_kept patience older
 told_are_kept patience (event.Passed passed ∷ older) =
@@ -153,7 +153,7 @@ at_look false older = refl
 
 -- the lines that a spare is told are those that the record gave
 told_are_given : (events : List RecordEvent)
-    → lines_told (told_by_record events) ≡ lines_given events
+    → lines_told (told_by_record events) ≡ given_by_record events
 told_are_given [] = refl
 told_are_given (record_event.Gave line ∷ older) =
     ap (λ all. line.items ∷ all) (told_are_given older)

@@ -26,10 +26,10 @@ is_comment [] = false
 is_comment (first ∷ more) = nat_eq first 33
 
 -- the following began
-abbrev pub has_begun : List MainEvent → Bool
-has_begun [] = false
-has_begun (event.Began ∷ older) = true
-has_begun (_ ∷ older) = has_begun older
+abbrev pub following_began : List MainEvent → Bool
+following_began [] = false
+following_began (event.Began ∷ older) = true
+following_began (_ ∷ older) = following_began older
 
 -- what is owed to a typed line, by what it asks for
 abbrev pub deeds_for_asked : Option Asked → MainDeed → List MainDeed
@@ -71,7 +71,7 @@ led_by_asked _ = None
 abbrev pub led_at : ℕ → MainEvent → List MainEvent → Option Led
 led_at patience (event.Did (Kept line)) older = Some (Line line)
 led_at patience (event.Typed line) older = led_by_asked (asked_by (words_of line.items))
-led_at patience (event.Looked false) older = if has_begun older then None else Some End
+led_at patience (event.Looked false) older = if following_began older then None else Some End
 led_at patience (event.Passed passed) older =
     if is_record_silent (as_nanos passed) patience then Some End else None
 led_at patience event.ClockFailed older = Some End
@@ -101,7 +101,7 @@ IsTypedFirst (_ ∷ older) = IsTypedFirst older
 abbrev pub EndsBy : ℕ → Ending → List MainEvent → Type 0
 EndsBy patience ending.Taken (event.Typed line ∷ older) =
     asked_by (words_of line.items) ≡ Some asked.Take
-EndsBy patience ending.Silent (event.Looked false ∷ older) = has_begun older ≡ false
+EndsBy patience ending.Silent (event.Looked false ∷ older) = following_began older ≡ false
 EndsBy patience ending.Silent (event.Passed passed ∷ older) =
     is_record_silent (as_nanos passed) patience ≡ true
 EndsBy patience ending.Silent (event.ClockFailed ∷ older) = Unit {0}

@@ -9,10 +9,10 @@ use Rattle.cmd_live.specs.declared.played_record.RecordEvent.TheVariants.{Gave, 
 use Rattle.cmd_live.specs.declared.played_record.RecordEvent.TheVariants.{Tried, Failed}
 
 -- the lines that the record gave
-abbrev pub lines_given : List RecordEvent → List (List ℕ)
-lines_given [] = []
-lines_given (Gave line ∷ older) = line.items ∷ lines_given older
-lines_given (_ ∷ older) = lines_given older
+abbrev pub given_by_record : List RecordEvent → List (List ℕ)
+given_by_record [] = []
+given_by_record (Gave line ∷ older) = line.items ∷ given_by_record older
+given_by_record (_ ∷ older) = given_by_record older
 
 -- its lock was had
 abbrev pub has_had_lock : List RecordEvent → Bool
@@ -31,15 +31,15 @@ told_by_record (Failed ∷ older) = End ∷ told_by_record older
 told_by_record (_ ∷ older) = told_by_record older
 
 -- these lines are the first of those that stand in the record, each once and in order
-abbrev pub AreFirst : List (List ℕ) → List (List ℕ) → Type 0
-AreFirst given written = (newer : List (List ℕ)) × (written ≡ newer ++ given)
+abbrev pub AreFirstLines : List (List ℕ) → List (List ℕ) → Type 0
+AreFirstLines given written = (newer : List (List ℕ)) × (written ≡ newer ++ given)
 
 -- once the lock was had, a look found no more: each line that stands in the record was given
 pub record IsTakenUp (events : List RecordEvent) (written : List (List ℕ)) : Type 0 where
   pub older : List RecordEvent
   pub looked : events ≡ Looked false ∷ older
   pub locked : has_had_lock older ≡ true
-  pub all : written ≡ lines_given events
+  pub all : written ≡ given_by_record events
 
 -- the record could not be read or not be locked
 abbrev pub HasFailed : List RecordEvent → Type 0

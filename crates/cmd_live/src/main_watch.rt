@@ -1,6 +1,6 @@
 ghost use Rattle.std.specs.Prelude.{◌≡◌, ◌<◌, ◌∷◌, [], ℕ, List, length, false, true, IfOk, IfSome};
 ghost use Rattle.std.specs.Prelude.{IsNone, OnErr};
-ghost use Rattle.cmd_live.specs.Backup.{has_begun};
+ghost use Rattle.cmd_live.specs.Backup.{following_began};
 ghost use Rattle.cmd_live.specs.declared.main_watch.MainDeed.TheVariants.{Kept, Missing};
 ghost use Rattle.cmd_live.specs.declared.main_watch.MainDeed.TheVariants.{Refused, Helped};
 ghost use Rattle.cmd_live.specs.declared.main_watch.MainDeed.TheVariants.{Reminded};
@@ -108,7 +108,7 @@ pub trait MainWatch {
 
     /// Whether the following began, behind the lines that stood there at the start.
     fn has_begun(&self) -> bool
-        ensures { tells self.now → result ≡ has_begun (events self.now) };
+        ensures { tells self.now → result ≡ following_began (events self.now) };
 
     /// Whether the record is still there, with all lines that it gave.
     fn is_there(&mut self) -> bool

@@ -1,6 +1,6 @@
 ghost use Rattle.std.specs.Prelude.{◌≡◌, ◌∷◌, ◌<◌, List, ℕ, length, false, IfOk, IfSome, IsNone};
 ghost use Rattle.std.specs.Prelude.{OnErr};
-ghost use Rattle.cmd_live.specs.Spare.{AreFirst, has_had_lock, lines_given};
+ghost use Rattle.cmd_live.specs.Spare.{AreFirstLines, has_had_lock, given_by_record};
 ghost use Rattle.cmd_live.specs.declared.played_record.RecordEvent.{RecordEvent};
 ghost use Rattle.cmd_live.specs.declared.played_record.RecordEvent.TheVariants.{Gave};
 ghost use Rattle.cmd_live.specs.declared.played_record.RecordEvent.TheVariants.{Looked};
@@ -47,7 +47,7 @@ pub trait PlayedRecord {
         ensures none { IsNone result → tells self.new → events self.new ≡ events self.old }
         ensures same { tells self.new → written self.new ≡ written self.old }
         ensures first { tells self.new
-            → AreFirst (lines_given (events self.new)) (written self.new) };
+            → AreFirstLines (given_by_record (events self.new)) (written self.new) };
 
     /// Looks for lines behind those that stood there: whether one stands there that it has not
     /// given.
@@ -61,7 +61,7 @@ pub trait PlayedRecord {
             → events self.new ≡ Looked found ∷ events self.old) }
         ensures err { OnErr result (tells self.new → events self.new ≡ Failed ∷ events self.old) }
         ensures all { IfOk result (λ found. found ≡ false → tells self.new
-            → written self.new ≡ lines_given (events self.new)) }
+            → written self.new ≡ given_by_record (events self.new)) }
         ensures few { tells self.new → length (events self.new) < 18446744073709551615 };
 
     /// Whether its lock is had.

@@ -1,6 +1,6 @@
 ghost use Rattle.std.specs.Prelude.{◌≡◌, ◌<◌, ◌∷◌, ◌+◌, ◌⊎◌, length, true, false, IfOk, OnErr};
-ghost use Rattle.cmd_live.specs.Spare.{AreFirst, HasFailed, IsQuiet, IsTakenUp, lines_given};
-ghost use Rattle.cmd_live.specs.Spare.{told_by_record};
+ghost use Rattle.cmd_live.specs.Spare.{AreFirstLines, HasFailed, IsQuiet, IsTakenUp};
+ghost use Rattle.cmd_live.specs.Spare.{given_by_record, told_by_record};
 ghost use Rattle.cmd_live.specs.declared.main_console.Led.TheVariants.{End};
 
 use crate::main_console::{Led, MainConsole};
@@ -54,7 +54,8 @@ impl<R: PlayedRecord> MainConsole for Spare<R> {
         ensures gives { R.tells self.new.record → told_by_record (R.events self.new.record)
             ≡ result ∷ told_by_record (R.events self.old.record) }
         ensures first { R.tells self.new.record → (result ≡ End → ⊥)
-            → AreFirst (lines_given (R.events self.new.record)) (R.written self.new.record) }
+            → AreFirstLines (given_by_record (R.events self.new.record))
+            (R.written self.new.record) }
         ensures end { R.tells self.new.record → result ≡ End
             → IsTakenUp (R.events self.new.record) (R.written self.new.record)
             ⊎ HasFailed (R.events self.new.record) }

@@ -1,6 +1,6 @@
 ghost use Rattle.std.specs.Prelude.{◌≡◌, ◌≤◌, ◌<◌, ◌∷◌, [], List, ℕ, length, take, map, reverse};
 ghost use Rattle.std.specs.Prelude.{false, true, is_err, IfOk, IfSome, IsNone, OnErr};
-ghost use Rattle.cmd_live.specs.Backup.{has_begun};
+ghost use Rattle.cmd_live.specs.Backup.{following_began};
 ghost use Rattle.cmd_live.specs.declared.main_watch.MainEvent.TheVariants as event;
 
 use super::kept::{copy, note};
@@ -41,7 +41,7 @@ pub struct MemoryWatch<'a> {
     /// Which looks, readings of the clock and waits fail.
     pub faults: Faults,
     ghost within: { standing ≤ length lines.now },
-    ghost begun: { is_lost ≡ false → is_on ≡ has_begun (reverse events.items) },
+    ghost begun: { is_lost ≡ false → is_on ≡ following_began (reverse events.items) },
 }
 
 impl<'a> MemoryWatch<'a> {
@@ -82,7 +82,7 @@ impl<'a> MemoryWatch<'a> {
     }
 
     fn happens(&mut self, event: MainEvent)
-        requires { has_begun (event ∷ []) ≡ false }
+        requires { following_began (event ∷ []) ≡ false }
         ensures told { self.new.is_lost ≡ false → self.old.is_lost ≡ false }
         ensures event { self.new.is_lost ≡ false → reverse self.new.events.items
             ≡ event ∷ reverse self.old.events.items }

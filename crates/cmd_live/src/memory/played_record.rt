@@ -2,7 +2,7 @@ ghost use Rattle.std.specs.Prelude.{◌≡◌, ◌≤◌, ◌<◌, ◌∷◌, �
 ghost use Rattle.std.specs.Prelude.{true};
 ghost use Rattle.std.specs.Prelude.{is_err, reverse, map, IfOk, IfSome, IsNone, OnErr};
 ghost use Rattle.devices.specs.Failing.{IsCounted, is_failing};
-ghost use Rattle.cmd_live.specs.Spare.{AreFirst, has_had_lock, lines_given};
+ghost use Rattle.cmd_live.specs.Spare.{AreFirstLines, has_had_lock, given_by_record};
 ghost use Rattle.cmd_live.specs.Kept.{standing_lines};
 ghost use Rattle.cmd_live.specs.declared.played_record.RecordEvent.TheVariants.{Gave};
 ghost use Rattle.cmd_live.specs.declared.played_record.RecordEvent.TheVariants.{Looked};
@@ -74,7 +74,7 @@ impl PlayedRecord for MemoryPlayedRecord<'_> {
     ghost events = { λ m. reverse m.events.items };
 
     ghost written = { λ m. standing_lines m.standing (map (λ line. line.items) m.lines.now)
-        ++ lines_given (reverse m.events.items) };
+        ++ given_by_record (reverse m.events.items) };
 
     fn next_line(&mut self) -> Option<LineFront> {
         if self.standing == 0 {
