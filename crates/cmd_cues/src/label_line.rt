@@ -1,16 +1,15 @@
 ghost use Rattle.std.specs.Prelude.{◌≡◌, option_map};
 ghost use Rattle.show_line.specs.declared.statement.Record.{Record};
 ghost use Rattle.show_line.specs.declared.statement.Statement.TheVariants.{Quiet};
-ghost use Rattle.show_reader.specs.Keys.{table_of};
-ghost use Rattle.show_reader.specs.Meaning.{after, empties, same_record};
+ghost use Rattle.show_reader.specs.Meaning.{after, same_record};
 ghost use Rattle.cmd_cues.specs.declared.label_line.LabelKind.{LabelKind};
 ghost use Rattle.cmd_cues.specs.Labels.{label_news_of, label_part};
 ghost use Rattle.cmd_cues.specs.LabelLines.{label_if, line_news, news_in};
 ghost use Rattle.cmd_cues.specs.declared.label_line.LabelKind.TheVariants.{Text, Comment};
 
 use crate::label_part::label_part;
-use cmd_explain::{begins_with_word, is_same_record};
-use show_line::{Cleared, Record, Statement, Table};
+use cmd_explain::{begins_with_word, is_emptied, is_same_record, table_of};
+use show_line::{Cleared, Record, Statement};
 
 /// Where a label stands: on a TEXT line, or in the comment of a CUE, SUB or GROUP line.
 #[derive(Clone, Copy)]
@@ -95,24 +94,11 @@ impl<'a> LabelLine<'a> {
             LabelLine::Label(named, LabelKind::Comment, bytes) if is_same_record(of, named) => {
                 candidates.comment = Some(bytes);
             }
-            LabelLine::Clear(what) if is_empty_after(what, of) => {
+            LabelLine::Clear(what) if is_emptied(what, table_of(of)) => {
                 candidates.text = None;
                 candidates.comment = None;
             }
             _ => {}
         }
-    }
-}
-
-// Whether the table of a record is empty after this CLEAR.
-fn is_empty_after(what: Cleared, of: Record) -> bool
-    ensures { result ≡ empties what (table_of of) }
-{
-    match (what, of) {
-        (Cleared::All, _)
-        | (Cleared::Only(Table::Cues), Record::Cue(_))
-        | (Cleared::Only(Table::Groups), Record::Group(_))
-        | (Cleared::Only(Table::Subs), Record::Sub(_)) => true,
-        _ => false,
     }
 }

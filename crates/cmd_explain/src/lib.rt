@@ -40,7 +40,7 @@ mod weight;
 pub use decimal::{push_decimal, push_number};
 pub use explanation::explain;
 pub use line_words::begins_with_word;
-pub use openings::is_same_record;
+pub use openings::{is_emptied, is_same_record, table_of};
 pub use seeming::seems;
 pub use show_notes::cue_numbers;
 pub use skipped::push_display_text;

@@ -109,6 +109,17 @@ fn is_in(which: Record, table: Table) -> bool
     )
 }
 
+/// The table that a record is in.
+pub fn table_of(which: Record) -> Table
+    ensures { result ≡ table_of which }
+{
+    match which {
+        Record::Cue(_) => Table::Cues,
+        Record::Group(_) => Table::Groups,
+        Record::Sub(_) => Table::Subs,
+    }
+}
+
 /// Whether a CLEAR empties a table.
 pub fn is_emptied(what: Cleared, table: Table) -> bool
     ensures { result ≡ empties what table }

@@ -4,3 +4,7 @@ pub mod Night
 pub mod Stands
 pub mod Beginning
 pub mod Following
+pub mod Told
+pub mod Spare
+pub mod Kept
+pub mod Backup

@@ -7,6 +7,14 @@
 //! contract says exactly which packets were offered, what was recorded and what was shown, for
 //! whatever bytes came and whatever the clock said.
 //!
+//! Two [`MainConsole`]s take lines from a record that another process writes. [`Spare`] stands by
+//! for the night of its own record: it gives the lines of a [`PlayedRecord`], and then an end,
+//! once the lock of the record is had and each of its lines was given. [`Backup`] follows the
+//! record of its main: it gives the lines that come where a main is watched ([`MainWatch`]), once
+//! each is kept; it answers what is typed meanwhile, and ends where the main is silent or gone, or
+//! where `take` was typed. What is over memory ([`memory`]) tells what happened to it, and stands
+//! in for files in tests.
+//!
 //! ```
 //! // A booth at which `go`, `where` and `end` are typed, at 1,510 ms.
 //! let mut night: Night<StepFader> = Night::open(rt.alloc(), show, identity, 1)?;
@@ -20,18 +28,29 @@
 //! ```
 #![tactic(auto)]
 
+mod backup;
 mod beginning;
 mod booth;
 mod carry;
 mod follow;
+mod laws;
 mod main_console;
+mod main_watch;
+pub mod memory;
 mod night;
 mod place;
+mod played_record;
 mod run;
 mod silent;
+mod spare;
 
+pub use backup::{Backup, Ending};
 pub use booth::{Booth, Heard};
 pub use follow::Pause;
+pub use laws::{following_law, spare_law};
 pub use main_console::{Led, MainConsole};
+pub use main_watch::{MainDeed, MainEvent, MainWatch};
 pub use night::Night;
+pub use played_record::{PlayedRecord, RecordEvent};
 pub use silent::Silent;
+pub use spare::Spare;

@@ -1,8 +1,7 @@
 ghost use Rattle.std.specs.Prelude.{[]};
 
-use cmd_live::{Led, MainConsole};
+use cmd_live::{Led, MainConsole, PlayedRecord, Spare};
 use devices::LinkFault;
-use night_following::{PlayedRecord, Spare};
 use night_record::LineFront;
 use std::io::ErrorKind;
 use std::thread::sleep;

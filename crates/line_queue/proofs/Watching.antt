@@ -7,7 +7,7 @@ use Rattle.line_queue.specs.declared.watch.OutputLook.{OutputLook}
 use Rattle.line_queue.specs.declared.watch.OutputNotice.{OutputNotice}
 use Rattle.line_queue.specs.declared.watch.OutputNotice.TheVariants.{Failed, Late, Missing, Whole}
 use Rattle.line_queue.specs.declared.watch.OutputWatch.{OutputWatch}
-use Rattle.line_queue.specs.Watches.{AreInTurn, NoticesLaw, after_look, before_notices, is_missing}
+use Rattle.line_queue.specs.Watches.{AreInTurn, NoticesLaw, told_after, before_notices, is_missing}
 use Rattle.line_queue.specs.Watches.{news_of_output, notices_of}
 
 abbrev watch_of : Bool → Bool → ℕ → OutputWatch
@@ -19,7 +19,7 @@ look_of failed late gaps = record { has_failed = failed; is_late = late; gaps = 
 -- the notices after a look, behind its own
 abbrev told_on : OutputWatch → OutputLook → List OutputLook → List OutputNotice
 told_on told look looks =
-    before_notices (news_of_output told look) (notices_of (after_look told look) looks)
+    before_notices (news_of_output told look) (notices_of (told_after told look) looks)
 
 silent : (late : Bool) (gaps : ℕ) (looks : List OutputLook)
     → notices_of (watch_of true late gaps) looks ≡ []

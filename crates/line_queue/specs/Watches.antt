@@ -34,8 +34,8 @@ news_of_output told look =
     else news_of_delay told.is_late look.is_late (news_of_catching_up told.gaps look.gaps)
 
 -- what was told then: gaps are told when the output is late no more
-abbrev pub after_look : OutputWatch → OutputLook → OutputWatch
-after_look told look =
+abbrev pub told_after : OutputWatch → OutputLook → OutputWatch
+told_after told look =
     if told.has_failed then told
     else if look.has_failed then record told { has_failed = true }
     else record told {
@@ -52,7 +52,7 @@ before_notices (Some notice) notices = notice ∷ notices
 abbrev pub notices_of : OutputWatch → List OutputLook → List OutputNotice
 notices_of told [] = []
 notices_of told (look ∷ looks) =
-    before_notices (news_of_output told look) (notices_of (after_look told look) looks)
+    before_notices (news_of_output told look) (notices_of (told_after told look) looks)
 
 -- in turn: late, and then whole again or with lines missing; a failure ends them
 abbrev pub AreInTurn : Bool → List OutputNotice → Type 0

@@ -1,5 +1,5 @@
 ghost use Rattle.std.specs.Prelude.{◌≡◌};
-ghost use Rattle.line_queue.specs.Watches.{after_look, news_of_output};
+ghost use Rattle.line_queue.specs.Watches.{told_after, news_of_output};
 
 /// How an output is at a look.
 #[derive(Clone, Copy, Debug, PartialEq, Eq)]
@@ -38,7 +38,7 @@ impl OutputWatch {
     /// another than was told. Behind a failure nothing is told.
     pub fn look(&mut self, now: OutputLook) -> Option<OutputNotice>
         ensures notice { result ≡ news_of_output self.old now }
-        ensures told { self.new ≡ after_look self.old now }
+        ensures told { self.new ≡ told_after self.old now }
     {
         if self.has_failed {
             return None;

@@ -8,8 +8,8 @@ use Rattle.link_notices.specs.declared.path.Trouble.{Trouble}
 use Rattle.link_notices.specs.declared.path.Trouble.TheVariants as trouble
 
 -- the route gives the address itself, or one of the same card
-abbrev pub is_by : CardAddress → CardAddress → Bool
-is_by source route = bytes_eq route.address source.address
+abbrev pub leads_by : CardAddress → CardAddress → Bool
+leads_by source route = bytes_eq route.address source.address
     || bytes_eq route.card.bytes source.card.bytes
 
 -- how a host is reached from a source, by the address that the route there gives, and its card:
@@ -17,7 +17,7 @@ is_by source route = bytes_eq route.address source.address
 abbrev pub path_state : Option CardAddress → CardAddress → Bool → PathState
 path_state None source is_any_route = Nowhere
 path_state (Some route) source is_any_route =
-    if is_any_route || is_by source route then Leads else Elsewhere route.card
+    if is_any_route || leads_by source route then Leads else Elsewhere route.card
 
 -- where a card is named, a route by another one refuses the night
 abbrev pub refused_card : PathState → Bool → Option (ArrayString 15)

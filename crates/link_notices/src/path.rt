@@ -1,5 +1,5 @@
 ghost use Rattle.std.specs.Prelude.{◌≡◌};
-ghost use Rattle.link_notices.specs.Paths.{is_by, path_state, refused_card, trouble_of};
+ghost use Rattle.link_notices.specs.Paths.{leads_by, path_state, refused_card, trouble_of};
 
 use network_tables::{CardName, SILENCE};
 
@@ -12,8 +12,8 @@ pub struct CardAddress {
 
 impl CardAddress {
     // Whether it is that address, or one of the same card.
-    fn is_by(&self, source: &CardAddress) -> bool
-        ensures { result ≡ is_by source.now self.now }
+    fn leads_by(&self, source: &CardAddress) -> bool
+        ensures { result ≡ leads_by source.now self.now }
     {
         let address = source.address;
         let other = self.address;
@@ -45,7 +45,7 @@ impl PathState {
     {
         match route {
             None => PathState::Nowhere,
-            Some(route) if is_any_route || route.is_by(&source) => PathState::Leads,
+            Some(route) if is_any_route || route.leads_by(&source) => PathState::Leads,
             Some(route) => PathState::Elsewhere(route.card),
         }
     }

@@ -7,7 +7,7 @@ use Rattle.std.proofs.lemmas.List.{append-nil}
 use Rattle.std.proofs.lemmas.List.Elements.{All-append, All-cons, All-nil}
 use Rattle.std.specs.Prelude.{fold, All}
 use Rattle.std.proofs.Common.{inl, inr, get_or}
-use Rattle.network_tables.specs.Routes.{Entry, leads_to, width_of}
+use Rattle.network_tables.specs.Routes.{RouteEntry, leads_to, width_of}
 use Rattle.network_tables.specs.Best.{BestRouteLaw, IsRouteTo, IsFirstWidest, LeadsElsewhere}
 use Rattle.network_tables.specs.Best.{IsNarrower, IsNotWider, better, wider}
 
@@ -22,7 +22,7 @@ false_true : {b : Bool} → b ≡ false → b ≡ true → ⊥
 false_true f t = grind (arith, f, t)
 
 -- one more that does not lead there
-kept : (host : List ℕ) (seen : List Entry) (route : Entry) (best : Option Entry)
+kept : (host : List ℕ) (seen : List RouteEntry) (route : RouteEntry) (best : Option RouteEntry)
     → leads_to host route ≡ false → IsRouteTo host seen best
     → IsRouteTo host (seen ++ route ∷ []) best
 kept host seen route None strays h = All-append (LeadsElsewhere host) seen (route ∷ []) h
@@ -39,7 +39,7 @@ kept host seen route (Some best) strays h = record {
 }
 
 -- one more that leads there, and looks at strays more bits
-not_better : (host : List ℕ) (seen : List Entry) (route best : Entry)
+not_better : (host : List ℕ) (seen : List RouteEntry) (route best : RouteEntry)
     → width_of route ≤ width_of best → IsFirstWidest host seen best
     → IsFirstWidest host (seen ++ route ∷ []) best
 not_better host seen route best le h = record {
@@ -53,7 +53,7 @@ not_better host seen route best le h = record {
 }
 
 -- the first that leads there
-first : (host : List ℕ) (seen : List Entry) (route : Entry) → leads_to host route ≡ true
+first : (host : List ℕ) (seen : List RouteEntry) (route : RouteEntry) → leads_to host route ≡ true
     → All (LeadsElsewhere host) seen → IsFirstWidest host (seen ++ route ∷ []) route
 first host seen route leads h = record {
   before = seen;
@@ -66,7 +66,8 @@ first host seen route leads h = record {
 }
 
 -- one that leads there, and looks at more bits than the best so far
-new_best : (host : List ℕ) (seen : List Entry) (route best : Entry) → leads_to host route ≡ true
+new_best : (host : List ℕ) (seen : List RouteEntry) (route best : RouteEntry)
+    → leads_to host route ≡ true
     → width_of best < width_of route → IsFirstWidest host seen best
     → IsFirstWidest host (seen ++ route ∷ []) route
 new_best host seen route best leads lt h = record {
@@ -85,7 +86,7 @@ new_best host seen route best leads lt h = record {
   not_wider = All-nil (IsNotWider host (width_of route));
 }
 
-step : (host : List ℕ) (seen : List Entry) (route : Entry) (best : Option Entry)
+step : (host : List ℕ) (seen : List RouteEntry) (route : RouteEntry) (best : Option RouteEntry)
     → IsRouteTo host seen best → IsRouteTo host (seen ++ route ∷ []) (better host best route)
 step host seen route best h = elim (leads_to host route) as (λ b. leads_to host route ≡ b
     → IsRouteTo host (seen ++ route ∷ []) (cond b (Some (wider best route)) best)) [
@@ -93,7 +94,7 @@ step host seen route best h = elim (leads_to host route) as (λ b. leads_to host
       | false ↦ λ strays. kept host seen route best strays h
     ] refl
   where
-    leading : (best : Option Entry) → leads_to host route ≡ true → IsRouteTo host seen best
+    leading : (best : Option RouteEntry) → leads_to host route ≡ true → IsRouteTo host seen best
         → IsFirstWidest host (seen ++ route ∷ []) (wider best route)
     leading None leads h = first host seen route leads h
     leading (Some best) leads h = elim (leb_tells (width_of route) (width_of best)) [
@@ -101,7 +102,8 @@ step host seen route best h = elim (leads_to host route) as (λ b. leads_to host
       | inr w ↦ rw w.0 (new_best host seen route best leads w.1 h)
     ]
 
-steps : (host : List ℕ) (seen rest : List Entry) (best : Option Entry) → IsRouteTo host seen best
+steps : (host : List ℕ) (seen rest : List RouteEntry) (best : Option RouteEntry)
+    → IsRouteTo host seen best
     → IsRouteTo host (seen ++ rest) (fold (better host) best rest)
 steps host seen [] best h = rw (append-nil seen) h
 steps host seen (route ∷ rest) best h =

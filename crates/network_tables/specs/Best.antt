@@ -1,49 +1,51 @@
 -- Which route leads to a host.
 use Rattle.std.specs.Prelude.{◌≡◌, ℕ, ◌≤◌, ◌<◌, true, List, ◌∷◌, ◌++◌, fold, All}
 use Rattle.std.specs.Prelude.{Option, Some, None, nat_le, if◌then◌else◌}
-use Rattle.network_tables.specs.Routes.{Entry, leads_to, width_of}
+use Rattle.network_tables.specs.Routes.{RouteEntry, leads_to, width_of}
 
 -- the better of a route that leads to the host, and of the best before it
-abbrev pub wider : Option Entry → Entry → Entry
+abbrev pub wider : Option RouteEntry → RouteEntry → RouteEntry
 wider None route = route
 wider (Some before) route = if nat_le (width_of route) (width_of before) then before else route
 
 -- the best of the routes up to this one
-abbrev pub better : List ℕ → Option Entry → Entry → Option Entry
+abbrev pub better : List ℕ → Option RouteEntry → RouteEntry → Option RouteEntry
 better host best route = if leads_to host route then Some (wider best route) else best
 
 -- the route of the table that was found, read one by one
-abbrev pub found : List ℕ → List Entry → Option Entry
+abbrev pub found : List ℕ → List RouteEntry → Option RouteEntry
 found host routes = fold (better host) None routes
 
 -- it does not lead to the host
-abbrev pub LeadsElsewhere : List ℕ → Entry → Type 0
+abbrev pub LeadsElsewhere : List ℕ → RouteEntry → Type 0
 LeadsElsewhere host route = leads_to host route ≡ true → ⊥
 
 -- it does not lead there, or looks at fewer bits than so many
-abbrev pub IsNarrower : List ℕ → ℕ → Entry → Type 0
+abbrev pub IsNarrower : List ℕ → ℕ → RouteEntry → Type 0
 IsNarrower host width route = leads_to host route ≡ true → width_of route < width
 
 -- it does not lead there, or looks at no more bits than so many
-abbrev pub IsNotWider : List ℕ → ℕ → Entry → Type 0
+abbrev pub IsNotWider : List ℕ → ℕ → RouteEntry → Type 0
 IsNotWider host width route = leads_to host route ≡ true → width_of route ≤ width
 
 -- of the routes that lead to a host this one is the first that looks at most bits: it leads there,
 -- each before it that does looks at fewer, and none behind it at more
-pub record IsFirstWidest (host : List ℕ) (routes : List Entry) (route : Entry) : Type 0 where
-  pub before : List Entry
-  pub behind : List Entry
+pub record IsFirstWidest (host : List ℕ) (routes : List RouteEntry) (route : RouteEntry)
+    : Type 0 where
+  pub before : List RouteEntry
+  pub behind : List RouteEntry
   pub among : routes ≡ before ++ route ∷ behind
   pub leads : leads_to host route ≡ true
   pub narrower : All (IsNarrower host (width_of route)) before
   pub not_wider : All (IsNotWider host (width_of route)) behind
 
 -- the route that leads to a host, or that none of them does
-abbrev pub IsRouteTo : List ℕ → List Entry → Option Entry → Type 0
+abbrev pub IsRouteTo : List ℕ → List RouteEntry → Option RouteEntry → Type 0
 IsRouteTo host routes None = All (LeadsElsewhere host) routes
 IsRouteTo host routes (Some route) = IsFirstWidest host routes route
 
 -- THE BEST ROUTE. Read one by one, the routes give the first of those that lead to the host and
 -- look at most bits; and none exactly where none leads there
 abbrev pub BestRouteLaw : Type 0
-BestRouteLaw = (host : List ℕ) (routes : List Entry) → IsRouteTo host routes (found host routes)
+BestRouteLaw = (host : List ℕ) (routes : List RouteEntry)
+    → IsRouteTo host routes (found host routes)

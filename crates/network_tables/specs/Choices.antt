@@ -20,9 +20,9 @@ Names text (word.Name name) =
     (name.now ≡ text) × ((address : Ipv4Addr) → IsIpv4Text text address → ⊥)
 
 -- the row that a word names
-abbrev pub row_of : CardWord → List Card → Option Card
-row_of (word.Address address) rows = of_address (ipv4_octets address) rows
-row_of (word.Name name) rows = of_name name.now rows
+abbrev pub named_row : CardWord → List Card → Option Card
+named_row (word.Address address) rows = of_address (ipv4_octets address) rows
+named_row (word.Name name) rows = of_name name.now rows
 
 -- why a card without an address cannot be sent by, as it is
 abbrev pub without_address : CardState → CardRefusal

@@ -1,10 +1,10 @@
 -- The fields of a line of one of the system's tables.
-use Rattle.std.specs.Prelude.{ℕ, Bool, true, false, ◌&&◌, List, [], ◌∷◌, ◌==◌, length, filter}
-use Rattle.std.specs.Prelude.{take, drop, codes, bytes_eq}
-use Rattle.std.specs.Prelude.{nat_le, slice_index_or, Option, Some, None, if◌then◌else◌}
-use Rattle.std.specs.List.{list_all, slice_split}
+use Rattle.std.specs.Prelude.{ℕ, Bool, true, false, List, [], ◌∷◌, ◌==◌, filter, take, drop, codes}
+use Rattle.std.specs.Prelude.{bytes_eq, slice_index_or, Option, Some, None, if◌then◌else◌}
+use Rattle.std.specs.List.{slice_split}
 use Rattle.std.specs.Char.{is_ascii_hexdigit}
 use Rattle.std.specs.Str.Parse.{digits_value}
+use Rattle.ascii_text.specs.Forms.{is_run}
 
 -- what stands between fields
 abbrev pub is_blank : ℕ → Bool
@@ -22,11 +22,6 @@ fields_of line = filter is_field (slice_split is_blank line)
 -- the field at this place, from 0; empty where there is none
 abbrev pub field : ℕ → List ℕ → List ℕ
 field place line = slice_index_or (fields_of line) place []
-
--- least to most bytes, each of which passes the test
-abbrev pub is_run : (ℕ → Bool) → ℕ → ℕ → List ℕ → Bool
-is_run test least most field = (nat_le least (length field) && nat_le (length field) most)
-    && list_all test field
 
 -- the number that 1 to 8 hex digits spell
 abbrev pub hex_number : List ℕ → Option ℕ

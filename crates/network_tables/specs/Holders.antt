@@ -5,7 +5,7 @@ use Rattle.std.specs.Prelude.{List, [], ◌∷◌, ◌==◌, filter, bytes_eq, n
 use Rattle.std.specs.Prelude.{Option, Some, None, if◌then◌else◌}
 use Rattle.std.specs.Int.{to_be_bytes, w32}
 use Rattle.std.specs.List.{list_all, list_any}
-use Rattle.network_tables.specs.Routes.{Entry, leads_to, route_seen, width_of}
+use Rattle.network_tables.specs.Routes.{RouteEntry, leads_to, route_seen, width_of}
 use Rattle.network_tables.specs.Tables.{has_address, of_address}
 use Rattle.network_tables.specs.declared.holder.Holder.{Holder}
 use Rattle.network_tables.specs.declared.holder.Holder.TheVariants as holder
@@ -19,7 +19,7 @@ is_direct None = true
 is_direct (Some gateway) = false
 
 -- the route leads to a network at which its card is: without a gateway, and not to everywhere
-abbrev pub is_at_card : Entry → Bool
+abbrev pub is_at_card : RouteEntry → Bool
 is_at_card route = is_direct route.gateway && not (route.mask == 0)
 
 -- the network holds the address, and of those that do none looks at more bits

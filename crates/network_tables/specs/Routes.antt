@@ -4,12 +4,12 @@ use Rattle.std.specs.Prelude.{Option, Some, None, if◌then◌else◌}
 use Rattle.std.specs.Int.{from_be_bytes, to_le_bytes, w32}
 use Rattle.std.specs.Char.{is_ascii_graphic}
 use Rattle.arrayvec.specs.declared.array_string.ArrayString.{ArrayString}
-use Rattle.network_tables.specs.Fields.{field, hex_number, is_run}
+use Rattle.network_tables.specs.Fields.{field, hex_number}
 use Rattle.network_tables.specs.declared.route.Route.{Route}
 
 -- what a route says: the card that it leads by; its network and its mask, as numbers whose highest
 -- byte is the first of an address; and the gateway, where there is one
-pub record Entry : Type 0 where
+pub record RouteEntry : Type 0 where
   pub card : List ℕ
   pub network : ℕ
   pub mask : ℕ
@@ -18,7 +18,7 @@ pub record Entry : Type 0 where
 abbrev pub name_seen : ArrayString 15 → List ℕ
 name_seen name = name.bytes
 
-abbrev pub route_seen : Route → Entry
+abbrev pub route_seen : Route → RouteEntry
 route_seen route = record {
   card = route.card.bytes;
   network = route.network;
@@ -42,7 +42,8 @@ abbrev pub gateway_of : ℕ → ℕ → Option (List ℕ)
 gateway_of marks gateway = if is_set 2 marks then Some (to_le_bytes w32 gateway) else None
 
 -- what the card, the network, the gateway, the marks and the mask of a line say
-abbrev pub entry_of : Option (List ℕ) → Option ℕ → Option ℕ → Option ℕ → Option ℕ → Option Entry
+abbrev pub entry_of : Option (List ℕ) → Option ℕ → Option ℕ → Option ℕ → Option ℕ
+    → Option RouteEntry
 entry_of (Some card) (Some network) (Some gateway) (Some marks) (Some mask) =
     if is_set 512 marks then None else Some (record {
       card = card;
@@ -53,14 +54,14 @@ entry_of (Some card) (Some network) (Some gateway) (Some marks) (Some mask) =
 entry_of _ _ _ _ _ = None
 
 -- the route of a line
-abbrev pub route_of : List ℕ → Option Entry
+abbrev pub route_of : List ℕ → Option RouteEntry
 route_of line = entry_of (card_name (field 0 line)) (hex_number (field 1 line))
     (hex_number (field 2 line)) (hex_number (field 3 line)) (hex_number (field 7 line))
 
 -- a route leads to a host where they agree in the bits of the mask
-abbrev pub leads_to : List ℕ → Entry → Bool
+abbrev pub leads_to : List ℕ → RouteEntry → Bool
 leads_to host route = bit_and (from_be_bytes w32 host) route.mask == route.network
 
 -- how many bits of an address it looks at
-abbrev pub width_of : Entry → ℕ
+abbrev pub width_of : RouteEntry → ℕ
 width_of route = count_ones route.mask

@@ -1,16 +1,13 @@
 -- The cards of this machine: a row for each address of one, or one without an address.
-use Rattle.std.specs.Prelude.{ℕ, Bool, false, List, ◌∷◌, ◌++◌, [], ◌==◌, length, take, bytes_eq}
+use Rattle.std.specs.Prelude.{ℕ, Bool, false, List, ◌∷◌, ◌++◌, [], length, take, bytes_eq}
 use Rattle.std.specs.Prelude.{nat_le, Option, Some, None, if◌then◌else◌}
 use Rattle.std.specs.List.{find, position}
 use Rattle.std.specs.Option.{is_some}
+use Rattle.ascii_text.specs.Forms.{is_colon}
 use Rattle.arrayvec.specs.declared.array_string.ArrayString.{ArrayString}
 use Rattle.network_tables.specs.Fields.{field}
 use Rattle.network_tables.specs.Routes.{card_name}
 use Rattle.network_tables.specs.declared.table.Card.{Card}
-
--- in the list of the cards a colon ends the name
-abbrev pub is_colon : ℕ → Bool
-is_colon byte = byte == 58
 
 -- the name in a line of `/proc/net/dev`: what stands before the first colon of its first field
 abbrev pub name_before : Option ℕ → List ℕ → Option (List ℕ)

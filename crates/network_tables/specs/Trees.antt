@@ -46,7 +46,7 @@ with_leaf None addresses = addresses
 with_leaf (Some address) addresses = with_address addresses address
 
 -- after one line more
-abbrev pub after : Found → TreeLine → Found
-after found (line.Leaf address) = record found { leaf = Some (ipv4_octets address) }
-after found line.Own = record found { addresses = with_leaf found.leaf found.addresses }
-after found line.Other = found
+abbrev pub found_after : Found → TreeLine → Found
+found_after found (line.Leaf address) = record found { leaf = Some (ipv4_octets address) }
+found_after found line.Own = record found { addresses = with_leaf found.leaf found.addresses }
+found_after found line.Other = found

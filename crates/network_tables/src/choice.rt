@@ -1,5 +1,5 @@
 ghost use Rattle.std.specs.Prelude.{◌≡◌};
-ghost use Rattle.network_tables.specs.Choices.{Names, choice, row_of};
+ghost use Rattle.network_tables.specs.Choices.{Names, choice, named_row};
 
 use crate::card::CardState;
 use crate::table::{Card, Cards};
@@ -27,7 +27,7 @@ impl<'a> CardWord<'a> {
 
     /// The row of the card among these, where it has one.
     pub fn row_of(&self, cards: &Cards) -> Option<Card>
-        ensures { result ≡ row_of self.now cards.now.rows.items }
+        ensures { result ≡ named_row self.now cards.now.rows.items }
     {
         match self {
             CardWord::Address(address) => cards.of_address(address.octets()),

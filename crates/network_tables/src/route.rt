@@ -2,7 +2,8 @@ ghost use Rattle.std.specs.Prelude.{◌≡◌, ◌≤◌, Some, length, option_m
 ghost use Rattle.std.specs.List.{list_all};
 ghost use Rattle.network_tables.specs.Best.{better};
 ghost use Rattle.std.specs.Char.{is_ascii_graphic};
-ghost use Rattle.network_tables.specs.Fields.{field, hex_number, is_run};
+ghost use Rattle.ascii_text.specs.Forms.{is_run};
+ghost use Rattle.network_tables.specs.Fields.{field, hex_number};
 ghost use Rattle.network_tables.specs.Holders.{is_at_card};
 ghost use Rattle.network_tables.specs.Routes.{card_name, leads_to, name_seen, route_of, route_seen};
 ghost use Rattle.network_tables.specs.Routes.{address_number, entry_of, width_of};

@@ -1,8 +1,9 @@
 ghost use Rattle.std.specs.Prelude.{◌≡◌, [], option_map, Some};
 ghost use Rattle.std.specs.List.{list_all, position};
+ghost use Rattle.ascii_text.specs.Forms.{is_colon};
 ghost use Rattle.network_tables.specs.Routes.{name_seen};
 ghost use Rattle.network_tables.specs.Tables.{of_address, of_name, row_name, with_other, with_row};
-ghost use Rattle.network_tables.specs.Tables.{has_address, is_called, is_colon, is_known};
+ghost use Rattle.network_tables.specs.Tables.{has_address, is_called, is_known};
 
 use crate::fields::field;
 use crate::route::{CardName, card_name};

@@ -1,6 +1,7 @@
 ghost use Rattle.std.specs.Prelude.{◌≡◌, []};
 ghost use Rattle.network_tables.specs.Fields.{field};
-ghost use Rattle.network_tables.specs.Trees.{Says, after, found_seen, is_leaf, is_own, with_address};
+ghost use Rattle.network_tables.specs.Trees.{Says, found_after, found_seen, is_leaf, is_own};
+ghost use Rattle.network_tables.specs.Trees.{with_address};
 
 use crate::fields::field;
 use crate::table::MOST_CARDS;
@@ -73,7 +74,7 @@ impl OwnAddresses {
 
     /// Takes up what one more line says.
     pub fn take_up(&mut self, line: TreeLine)
-        ensures { found_seen self.new ≡ after (found_seen self.old) line }
+        ensures { found_seen self.new ≡ found_after (found_seen self.old) line }
     {
         match (line, self.leaf) {
             (TreeLine::Leaf(address), _) => self.leaf = Some(address.octets()),

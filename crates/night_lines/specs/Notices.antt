@@ -2,7 +2,7 @@
 use Rattle.std.specs.Prelude.{ℕ, if◌then◌else◌, List, [], ◌++◌, codes, unwrap_or}
 use Rattle.std.specs.Prelude.{Option, Some, None}
 use Rattle.std.specs.Str.{bytes_eq}
-use Rattle.network_tables.specs.Routes.{Entry}
+use Rattle.network_tables.specs.Routes.{RouteEntry}
 use Rattle.network_tables.specs.Texts.{host_text}
 use Rattle.link_notices.specs.declared.notice.SourceNotice.{SourceNotice}
 use Rattle.link_notices.specs.declared.notice.PathNotice.{PathNotice}
@@ -84,7 +84,7 @@ silent_text host (Some neighbor) =
     if bytes_eq neighbor host then host_silent_text host else gateway_silent_text neighbor host
 
 -- there is a route to a host now, from this source
-abbrev pub new_route_text : CardAddress → Option Entry → List ℕ
+abbrev pub new_route_text : CardAddress → Option RouteEntry → List ℕ
 new_route_text source route = origin_text source ++ route_text source route
 
 -- somebody answers
@@ -92,18 +92,18 @@ abbrev pub answering_text : List ℕ → List ℕ
 answering_text neighbor = host_text neighbor ++ codes " answers"
 
 -- a trouble on the way to a host is over
-abbrev pub mended_text : Way → Option Entry → Trouble → CardAddress → List ℕ
+abbrev pub mended_text : Way → Option RouteEntry → Trouble → CardAddress → List ℕ
 mended_text way route trouble.NoRouteYet source = new_route_text source route
 mended_text way route trouble.NoAnswer source = answering_text (unwrap_or way.neighbor way.host)
 mended_text way route was source = leading_text way.host source.card.bytes
 
 -- the same, where the host has a source
-abbrev pub mended_from : Way → Option Entry → Trouble → Option CardAddress → List ℕ
+abbrev pub mended_from : Way → Option RouteEntry → Trouble → Option CardAddress → List ℕ
 mended_from way route was None = []
 mended_from way route was (Some source) = mended_text way route was source
 
 -- what is wrong with the way to a host, behind what was
-abbrev pub trouble_text : Way → Option Entry → Trouble → Trouble → List ℕ
+abbrev pub trouble_text : Way → Option RouteEntry → Trouble → Trouble → List ℕ
 trouble_text way route was trouble.None = mended_from way route was way.source
 trouble_text way route was trouble.NoRouteYet = no_route_text way.host
 trouble_text way route was trouble.NoRoute = no_route_text way.host
@@ -111,6 +111,6 @@ trouble_text way route was trouble.OtherCard = other_card_text way.host way.stat
 trouble_text way route was trouble.NoAnswer = silent_text way.host way.neighbor
 
 -- the line of a notice about the way to a host, with the route that leads there now
-abbrev pub path_notice_line : ℕ → Way → PathNotice → Option Entry → List ℕ
+abbrev pub path_notice_line : ℕ → Way → PathNotice → Option RouteEntry → List ℕ
 path_notice_line moment way notice route =
     line_at moment (trouble_text way route notice.was notice.is)

@@ -3,7 +3,7 @@ use Rattle.std.specs.Prelude.{ℕ, ◌==◌, if◌then◌else◌, List, [], ◌+
 use Rattle.std.specs.Prelude.{Option, Some, None}
 use Rattle.std.specs.Str.{bytes_eq}
 use Rattle.std.specs.Int.{to_be_bytes, w32}
-use Rattle.network_tables.specs.Routes.{Entry, width_of}
+use Rattle.network_tables.specs.Routes.{RouteEntry, width_of}
 use Rattle.network_tables.specs.Texts.{host_text}
 use Rattle.link_notices.specs.declared.path.CardAddress.{CardAddress}
 
@@ -13,20 +13,20 @@ origin_text source =
     codes "from " ++ host_text source.address ++ codes " (" ++ source.card.bytes ++ codes ")"
 
 -- what a route leads to
-abbrev pub destination_text : Entry → List ℕ
+abbrev pub destination_text : RouteEntry → List ℕ
 destination_text route =
     if width_of route == 0 then codes ", the default route"
     else codes ", the route to " ++ host_text (to_be_bytes w32 route.network)
     ++ codes "/" ++ decimal (width_of route)
 
 -- the route by which a host is reached from a source, where it leads by the card of that
-abbrev pub route_text : CardAddress → Option Entry → List ℕ
+abbrev pub route_text : CardAddress → Option RouteEntry → List ℕ
 route_text source None = []
 route_text source (Some route) =
     if bytes_eq route.card source.card.bytes then destination_text route else []
 
 -- a source, and the route by which a host is reached from it
-abbrev pub origin_line : CardAddress → Option Entry → List ℕ
+abbrev pub origin_line : CardAddress → Option RouteEntry → List ℕ
 origin_line source route = origin_text source ++ route_text source route ++ codes "\n"
 
 -- that no route leads to a host

@@ -6,7 +6,8 @@ use Rattle.show_reader.specs.declared.fault.ShowFault.TheVariants as fault
 use Rattle.cmd_words.specs.declared.misfit.Form.TheVariants as form
 use Rattle.cmd_faults.specs.declared.fault.RunFault.TheVariants as run
 use Rattle.remarks.specs.Remarks.{excerpt, of_device, remark_of}
-use Rattle.remarks.specs.Misfits.{dashes, form_text, of_text}
+use Rattle.cmd_words.specs.FormTexts.{form_text}
+use Rattle.remarks.specs.Misfits.{dashes, of_text}
 use Rattle.remarks.specs.TextLines.{show_remark}
 use Rattle.remarks.specs.Refusals.{in_use, number_parts, refusal_line}
 use Rattle.remarks.specs.Failures.{of_run}

@@ -1,4 +1,0 @@
-pub mod Told
-pub mod Spare
-pub mod Kept
-pub mod Following
