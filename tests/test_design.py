@@ -1,7 +1,8 @@
 """docs/DESIGN.md: its map has the crates that there are, and the files that it names for a change
-are there."""
+are there. And no crate has more proof than its code is worth."""
 
 import re
+import subprocess
 import unittest
 
 from program import TOP
@@ -44,3 +45,13 @@ class Design(unittest.TestCase):
                 crate = name if name in LISTED else crate
                 with self.subTest(change, name=name):
                     self.assertTrue(is_there(crate, name))
+
+    def test_lines_of_proof(self):
+        """At most three to a line of code, but for the crate that is laws alone."""
+        table = subprocess.run(
+            [TOP / "dev/lines"], capture_output=True, text=True, check=True, timeout=60
+        ).stdout
+        rows = [line.split() for line in table.splitlines()[1:-1]]
+        self.assertEqual(sorted(LISTED), sorted(row[0] for row in rows))
+        above = [row[0] for row in rows if float(row[-1]) > 3]
+        self.assertEqual(["stage_light"], above)

@@ -11,7 +11,7 @@ from program import TOP
 
 NAMES = ("conform", "convert", "desk", "osc", "picture", "sheet", "storm", "watch")
 TOOLS = [TOP / "tools/cueplayer_tools", *(TOP / "tools" / name for name in NAMES)]
-WRITERS = [TOP / "dev/generators", TOP / "dev/pages"]
+WRITERS = [TOP / "dev/generators", TOP / "dev/lines", TOP / "dev/pages"]
 TESTS = [TOP / "tests", TOP / "tests/run"]
 
 
