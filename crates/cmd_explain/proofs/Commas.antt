@@ -1,5 +1,5 @@
 -- A comma between two digits, looked for byte by byte.
-use Rattle.std.proofs.Common.{◌≡◌, ◌∙◌, ℕ, ◌+◌, ◌≤◌, ◌<◌, ◌==◌, ◌||◌, Bool, true, false, cond, List}
+use Rattle.std.proofs.Common.{◌≡◌, ◌∙◌, ℕ, ◌+◌, ◌≤◌, ◌<◌, ◌==◌, ◌||◌, false, cond, List}
 use Rattle.std.proofs.Common.{[], ◌∷◌, length, drop, get_or, refl, sym, ap, arith}
 use Rattle.std.proofs.lemmas.List.{drop_more}
 use Rattle.cmd_explain.specs.LineNotes.{has_decimal_comma, is_decimal}

@@ -1,5 +1,5 @@
 -- What `explain` prints, put together from its parts.
-use Rattle.std.proofs.Common.{◌≡◌, ◌∙◌, ℕ, ◌++◌, List, [], map, flat_map, reverse, take, ap, subst}
+use Rattle.std.proofs.Common.{◌≡◌, ◌∙◌, ℕ, ◌++◌, List, map, flat_map, reverse, take, ap, subst}
 use Rattle.std.specs.Prelude.{All}
 use Rattle.ascii_text.specs.Text.{lines_of}
 use Rattle.show.specs.Tables.{Tables}

@@ -1,7 +1,7 @@
 -- The notes on single lines of a show text: what a line says that may mean something else than is
 -- played. Each is a fact of the line, of the lines above it, and of the show. Lists of lines have
 -- the last line first.
-use Rattle.std.specs.Prelude.{ℕ, ◌+◌, Bool, true, false, not, ◌==◌, ◌&&◌, ◌||◌, nat_lt}
+use Rattle.std.specs.Prelude.{ℕ, ◌+◌, Bool, false, not, ◌==◌, ◌&&◌, ◌||◌, nat_lt}
 use Rattle.std.specs.Prelude.{if◌then◌else◌, List, [], ◌∷◌, ◌++◌, Option, Some, None, is_some}
 use Rattle.std.specs.Prelude.{codes, decimal, length, take}
 use Rattle.std.specs.Char.{is_ascii_digit}

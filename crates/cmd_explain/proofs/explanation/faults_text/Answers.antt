@@ -1,4 +1,4 @@
-use Rattle.std.proofs.Common.{◌≡◌, ◌∙◌, ◌++◌, List, ℕ, map, flat_map, ap, rules}
+use Rattle.std.proofs.Common.{◌≡◌, ◌∙◌, ◌++◌, map, flat_map, ap, rules}
 use Rattle.cmd_explain.specs.Encoding.{encoding_notes}
 use Rattle.cmd_explain.specs.Explanation.{text_line}
 use Rattle.cmd_explain.specs.Skipped.{display_text}
