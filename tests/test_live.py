@@ -355,16 +355,21 @@ class Live(LiveTest):
         self.assertEqual(0, run(*self.words("--record", record), stdin=b"end\n").status)
         self.assertEqual(10, len(behind_head(record.read_bytes())))
 
-    def test_record_that_is_removed(self):
-        """No night begins in a file that was removed while its lock was waited for."""
+    def test_record_that_is_replaced(self):
+        """No night begins in a file that lost its name, or has another one in its place, while its
+        lock was waited for."""
         record = self.folder / "night.play"
-        with open(record, "wb") as held:
-            fcntl.flock(held, fcntl.LOCK_EX)
-            night = self.started("--record", record)
-            wait_for(lambda: record in open_files(night.pid), "the record is open")
-            record.unlink()
-        self.assertEqual(Outcome(5, b"", b"device fault\n"), self.ended(night))
-        self.assertEqual(([], False), (self.came(), record.exists()))
+        for replaced in (False, True):
+            with self.subTest(replaced=replaced), open(record, "wb") as held:
+                fcntl.flock(held, fcntl.LOCK_EX)
+                night = self.started("--record", record)
+                wait_for(lambda: record in open_files(night.pid), "the record is open")
+                record.unlink()
+                if replaced:
+                    record.touch()
+                held.close()
+                self.assertEqual(Outcome(5, b"", b"device fault\n"), self.ended(night))
+                self.assertEqual([], self.came())
 
     def test_record_on_a_full_disk(self):
         """It is told once, and the night goes on."""
