@@ -215,8 +215,12 @@ class KilledNight:
     def stands_by(self, *options: str) -> subprocess.Popen:
         """Starts a spare, and waits until it reads the record."""
         spare = self.stand_by(*options)
-        wait_until(lambda: self._is_read_by(spare), "the spare reads the record")
+        self.reads(spare)
         return spare
+
+    def reads(self, process: subprocess.Popen) -> None:
+        """Waits until a process has the record open."""
+        wait_until(lambda: self._is_read_by(process), "the record is read")
 
     def _is_read_by(self, process: subprocess.Popen) -> bool:
         """Whether a process has the record open for reading, as the script that starts it has

@@ -165,7 +165,7 @@ class Starts(CardsTest):
 
     def test_start(self):
         cases = (self.named, self.default_route, self.local_route, self.several, self.one_card)
-        self.side_by_side(*cases)
+        self.side_by_side(*cases, self.many_routes)
 
     def named(self, kept):
         """By either form of the word."""
@@ -184,6 +184,13 @@ class Starts(CardsTest):
     def local_route(self, kept):
         """A node's address leaves no doubt."""
         _, night = self.night(kept, "--to", STAGE)
+        self.assertFrom(night, f"from {LIT} (lit), the route to 10.101.2.0/24")
+
+    def many_routes(self, kept):
+        """The route to a node is found behind a hundred others."""
+        venue = Venue(kept)
+        venue.console.ip(*(f"route add 10.7.{k}.0/24 dev eth0" for k in range(100)))
+        night = Night(kept, venue, self.show, "--to", STAGE)
         self.assertFrom(night, f"from {LIT} (lit), the route to 10.101.2.0/24")
 
     def several(self, kept):

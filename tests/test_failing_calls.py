@@ -18,6 +18,8 @@ from worked import HEADER, LOOK_ONE, S1, keep_alive, look_one, plays, rehearsals
 NETWORK_ERRORS = (errno.EAGAIN, errno.ECONNREFUSED, errno.ENETUNREACH, errno.ENOBUFS, errno.EPERM)
 (FADE,) = plays("five_second_fade")
 LINES, PRINTED = (each.decode().splitlines() for each in (FADE.stdin, FADE.out))
+# In the place of an error: the call is made, with a byte less.
+IN_PART = 0
 KEPT_ALIVE = keep_alive()
 LOOK = look_one()
 (REHEARSED,) = rehearsals("rehearse_basic")
@@ -76,6 +78,19 @@ class Play(FailingCalls):
                     interrupted = (call, first, first + 2, errno.EINTR)
                     outcome, came = self.plays(LINES, interrupted)
                     self.assertEqual((Outcome(0, FADE.out, b""), FADE.packets), (outcome, came))
+
+    def test_calls_in_part(self):
+        """What a read leaves behind, or a write, the next one takes; a packet of which a part was
+        sent is lost."""
+        for call in ("read", "write"):
+            for first in range(1, 4):
+                with self.subTest(call, first=first):
+                    outcome, came = self.plays(LINES, (call, first, first, IN_PART))
+                    self.assertEqual((Outcome(0, FADE.out, b""), FADE.packets), (outcome, came))
+        out, packets = self.kept_alive(2)
+        outcome, came = self.plays(TICKS, ("sendto", 3, 3, IN_PART))
+        self.assertEqual(Outcome(5, out, b"lost 1\n"), outcome)
+        self.assertEqual([*packets[:2], KEPT_ALIVE.packets[2][:-1], *packets[2:]], came)
 
     def test_each_device_fails(self):
         """Row `five_second_fade`: what was printed and sent before the read or write that

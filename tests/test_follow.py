@@ -132,6 +132,16 @@ class Leads(FollowTest):
         self.assertIn(b"take: from now on this console leads", out)
         self.assertEqual(1, backup.record.read_bytes().count(b" go\n"))
 
+    def test_lock(self):
+        """No other console begins under the CID of a backup that follows."""
+        _, backup = self.written("0 tick")
+        words = ["play", backup.show, "--to", self.to, "--cid", BACKUP]
+        second = subprocess.run(
+            [PROGRAM, *words], input=b"0 tick\n", capture_output=True, timeout=PATIENCE
+        )
+        self.assertEqual((5, b"", []), (second.returncode, second.stdout, self.came()))
+        self.assertIn(b"another console on this machine sends under this CID", second.stderr)
+
     def test_old_lines(self):
         """What stood in the record before is taken up, and not sent."""
         record, backup = self.written("0 tick", "25 tick", "30 goto 2 in 0", "50 tick")

@@ -1,6 +1,7 @@
 """`live`: a night by the clock. What is typed, what it prints, its record, and its datagrams."""
 
 import collections
+import fcntl
 import os
 import re
 import signal
@@ -11,8 +12,9 @@ from pathlib import Path
 
 from machine import Took, in_time, took
 from program import CID, LIVE_NAME, PROGRAM, START, Outcome, behind_head, packet, run, text, told
+from tooling import open_files, wait_for
 from wire import OPTIONS, SEQUENCE, SLOT_1, TERMINATED, ReceiverTest
-from wire import address_of, received, receiving, terminal
+from wire import address_of, received, receiving, socket_flags, terminal
 from worked import S1
 
 OTHER = CID[:-1] + "2"
@@ -353,6 +355,22 @@ class Live(LiveTest):
         self.assertEqual(0, run(*self.words("--record", record), stdin=b"end\n").status)
         self.assertEqual(10, len(behind_head(record.read_bytes())))
 
+    def test_record_that_is_replaced(self):
+        """No night begins in a file that lost its name, or has another one in its place, while its
+        lock was waited for."""
+        record = self.folder / "night.play"
+        for replaced in (False, True):
+            with self.subTest(replaced=replaced), open(record, "wb") as held:
+                fcntl.flock(held, fcntl.LOCK_EX)
+                night = self.started("--record", record)
+                wait_for(lambda: record in open_files(night.pid), "the record is open")
+                record.unlink()
+                if replaced:
+                    record.touch()
+                held.close()
+                self.assertEqual(Outcome(5, b"", b"device fault\n"), self.ended(night))
+                self.assertEqual([], self.came())
+
     def test_record_on_a_full_disk(self):
         """It is told once, and the night goes on."""
         outcome = run(*self.words("--record", "/dev/full"), stdin=b"go\nend\n")
@@ -429,15 +447,9 @@ class Live(LiveTest):
         says of each socket."""
         night = self.begun()
         self.told(night, b"back\n", "refused AtStart")
-        descriptors = Path(f"/proc/{night.pid}/fd")
-        sockets = [
-            each for each in descriptors.iterdir() if os.readlink(each).startswith("socket:")
-        ]
-        self.assertTrue(sockets)
-        for each in sockets:
-            told = Path(f"/proc/{night.pid}/fdinfo", each.name).read_text()
-            flags = int(re.search(r"(?m)^flags:\s+([0-7]+)$", told)[1], 8)
-            self.assertTrue(flags & os.O_NONBLOCK, told)
+        flags = socket_flags(night.pid)
+        self.assertTrue(flags)
+        self.assertEqual([], [each for each in flags if not each & os.O_NONBLOCK])
 
     def test_before_the_night(self):
         """A fault of the show, the base or a file comes before anything is sent or recorded, and
@@ -553,15 +565,41 @@ class Lock(LiveTest):
             night.kill()
             night.wait()
 
+    def test_console_that_is_ending(self):
+        """It is waited for: the next one begins when the lock is let go."""
+        folder = Path(os.environ["XDG_RUNTIME_DIR"], "cueplayer")
+        folder.mkdir(exist_ok=True)
+        lock = folder / f"{OTHER.replace('-', '')}.lock"
+        with open(lock, "wb") as held:
+            fcntl.flock(held, fcntl.LOCK_EX)
+            night = self.started(cid=OTHER)
+            wait_for(lambda: lock in open_files(night.pid), "the lock is asked for")
+            time.sleep(0.2)
+            self.assertEqual([], self.came(wait=0))
+        self.assertEqual(0, self.ended(night).status)
+        self.assertTerminated(self.came())
+
+    def test_folder_that_is_a_link(self):
+        """No lock is made by a link, which another user may have put there."""
+        runtime, elsewhere = self.folder / "runtime", self.folder / "elsewhere"
+        runtime.mkdir()
+        elsewhere.mkdir()
+        (runtime / "cueplayer").symlink_to(elsewhere)
+        self.assertNoLock(runtime)
+        self.assertEqual([], list(elsewhere.iterdir()))
+
     def test_no_folder(self):
         """Where no lock can be made that is told, and the night begins."""
-        file = self.file("no folder", b"")
+        self.assertNoLock(self.file("no folder", b""))
+
+    def assertNoLock(self, runtime):
+        """In this folder of the user's runtime no lock is made."""
         done = subprocess.run(
             [PROGRAM, *self.words()],
             input=b"",
             capture_output=True,
             timeout=30,
-            env={**os.environ, "XDG_RUNTIME_DIR": str(file)},
+            env={**os.environ, "XDG_RUNTIME_DIR": str(runtime)},
         )
         without_lock = b"cid: no lock can be made, so a second console of this CID would begin\n"
         self.assertEqual((0, without_lock), (done.returncode, told(done.stderr)))

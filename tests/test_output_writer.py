@@ -196,21 +196,28 @@ class OutputWriter(WriterTest):
         self.assertEqual(4096, self.out.stat().st_size)
 
     def test_stalled_to_the_end(self):
-        """The program ends within two seconds, and says how much its writer has still."""
-        with open(self.out, "wb") as out:
-            night = self.begun(stdout=out)
-        self.light(night, b"sub 1 FL\n", 128)
-        writer = self.writer(night, self.out)
-        stand_still(writer)
-        self.light(night, b"sub 1 0\n", 0)
-        before = self.out.stat().st_size
-        self.assertEnds(night)
-        line = night.stderr.readline()
-        left = re.fullmatch(rb"outputs: (\d+) bytes are still with their writers\n", line)
-        os.kill(writer, signal.SIGCONT)
-        self.ends(writer)
-        self.assertEqual(before + int(left[1]), self.out.stat().st_size)
-        self.assertEqual(["ok"] * 4, without_moments(self.out.read_bytes()))
+        """The program ends within two seconds, and says how much its writer has still, also behind
+        what stood in the file before."""
+        for mode, stood in (("wb", b""), ("ab", BEFORE * 99)):
+            with self.subTest(mode):
+                self.out.write_bytes(BEFORE * 99)
+                with open(self.out, mode) as out:
+                    night = self.begun(stdout=out)
+                self.light(night, b"sub 1 FL\n", 128)
+                writer = self.writer(night, self.out)
+                stand_still(writer)
+                self.light(night, b"sub 1 0\n", 0)
+                before = self.out.stat().st_size
+                self.assertEnds(night)
+                line = night.stderr.readline()
+                left = re.fullmatch(rb"outputs: (\d+) bytes are still with their writers\n", line)
+                self.assertIsNotNone(left, line)
+                os.kill(writer, signal.SIGCONT)
+                self.ends(writer)
+                self.assertEqual(before + int(left[1]), self.out.stat().st_size)
+                printed = self.out.read_bytes()
+                self.assertEqual(stood, printed[: len(stood)])
+                self.assertEqual(["ok"] * 4, without_moments(printed[len(stood) :]))
 
     def test_refused(self):
         """Why a night does not begin is in the file of standard error when the program has

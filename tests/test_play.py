@@ -7,7 +7,7 @@ import subprocess
 import sys
 
 from program import CID, DEVICE_FAULT, PROGRAM, UNFIT, FolderTest, Outcome, packet, run, text, told
-from wire import address_of, free_port, own_network, received, receiving
+from wire import address_of, free_port, own_network, received, receiving, socket_flags
 from worked import S1, example, keep_alive, plays, with_examples
 
 TWO_UNIVERSES = example("two_universes").show()
@@ -53,6 +53,19 @@ class Lines(PlayTest):
             child.stdin.close()
             self.assertEqual(b"", child.stdout.read())
         self.assertEqual(0, child.returncode)
+
+    def test_socket_waits(self):
+        """A packet for which the system has no room waits until it has: so it says of each
+        socket."""
+        pipe = subprocess.PIPE
+        with subprocess.Popen([PROGRAM, *self.words(S1)], stdin=pipe, stdout=pipe) as child:
+            child.stdin.write(b"0 tick\n")
+            child.stdin.flush()
+            self.assertEqual(b"0 live 1:s0\n", child.stdout.readline())
+            flags = socket_flags(child.pid)
+            child.stdin.close()
+        self.assertTrue(flags)
+        self.assertEqual([], [each for each in flags if each & os.O_NONBLOCK])
 
 
 class Ends(PlayTest):

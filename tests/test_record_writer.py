@@ -147,6 +147,28 @@ class RecordWriter(WriterTest):
         self.assertEqual(before + int(left[1]), self.record.stat().st_size)
         self.assertEqual(b"end", commands(self.record)[-1])
 
+    def test_stalled_to_the_end_of_another(self):
+        """The same where the night goes on behind what stood in its record."""
+        first = self.begun("--record", self.record)
+        self.light(first, b"sub 1 FL\n", 128)
+        writer = self.writer(first)
+        first.kill()
+        first.wait()
+        self.ends(writer)
+        night = self.begun("--record", self.record, "--resume")
+        self.light(night, b"sub 1 50\n", 64)
+        writer = self.writer(night)
+        stand_still(writer)
+        self.light(night, b"sub 1 0\n", 0)
+        before = self.record.stat().st_size
+        self.assertEnds(night)
+        line = night.stderr.readline()
+        left = re.fullmatch(rb"record: (\d+) bytes are still with its writer\n", line)
+        self.assertIsNotNone(left, line)
+        os.kill(writer, signal.SIGCONT)
+        self.ends(writer)
+        self.assertEqual(before + int(left[1]), self.record.stat().st_size)
+
     def test_refused(self):
         """A run that is refused leaves no file, and changes none."""
         for words in (("live", self.show), ("live", self.show, "--to", "x", "--cid", "1")):

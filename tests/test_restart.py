@@ -242,6 +242,19 @@ class Kills(RestartTest):
         self.assertEqual(1, told.count(b"record: device fault"), told)
         self.assertTrue(night.heard[-1].packet[OPTIONS] & TERMINATED)
 
+    def test_full_disk_under_a_lock(self):
+        """No other process takes up a night that goes on and is recorded no more."""
+        night = self.killed(b"go\n")
+        night.begin(limit=night.record.stat().st_size + 100)
+        night.tells(b"record: device fault")
+        words = [*night.words, "--resume"]
+        second = subprocess.run(
+            words, input=b"", capture_output=True, timeout=30, env=night.env
+        )
+        self.assertEqual(4, second.returncode, second.stderr)
+        self.assertRegex(second.stderr, rb"^record: in use\b")
+        self.assertEnds(night)
+
 
 class KillsByTheScript(ByTheScript, Kills):
     """The same where a process of its own writes the record."""
@@ -282,6 +295,25 @@ class KillsByTheScript(ByTheScript, Kills):
         self.assertEqual(heard, len(night.heard))
         self.go_on(writer)
         self.assertGoesOn(night)
+        self.assertOne(night)
+
+    def test_writer_that_ends_soon(self):
+        """A night that is taken up while its record is still written begins when that is whole."""
+        night = self.night()
+        night.begin()
+        night.light(2)
+        writer = self.writer(night)
+        stand_still(writer)
+        self.addCleanup(self.go_on, writer)
+        night.type(b"go\n")
+        night.light(20)
+        night.kill(stalls=True)
+        night.begin()
+        night.reads(night.processes[-1])
+        time.sleep(0.2)
+        self.go_on(writer)
+        night.light()
+        self.assertEnds(night)
         self.assertOne(night)
 
 

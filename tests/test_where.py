@@ -2,12 +2,14 @@
 commands."""
 
 import random
+import subprocess
 
 import inputs
 from expected import live
 from nights import Typed, answers, expected, play_night, play_nights
-from program import text
+from program import PROGRAM, text
 from test_live import LiveTest, without_moments
+from wire import own_network
 
 NIGHTS, COMMANDS, SEED = 8, 1000, 41
 # A submaster and a group of each number that a show may have.
@@ -132,6 +134,15 @@ class Where(LiveTest):
         left = play_night(Typed(self.SHOW, ((0, b"sub 3 FL\nend\nwhere\n"),)))
         expected = ["ok", "ok", "where next 1 master 0 sub 3:255", "ok"]
         self.assertEqual(expected, without_moments(text(*left.shown)))
+
+    def test_before_what_is_wrong(self):
+        """What is wrong with the network is told behind it, where both are read by one reader."""
+        words = [*own_network(self), PROGRAM, *self.words(to="192.0.2.1")]
+        both = {"stdout": subprocess.PIPE, "stderr": subprocess.STDOUT}
+        done = subprocess.run(words, input=b"where\n", timeout=30, **both)
+        lines = done.stdout.decode().splitlines()
+        place = next(k for k, line in enumerate(lines) if " where " in line)
+        self.assertRegex(lines[place + 1], r"^\d+:\d\d:\d\d no route to 192\.0\.2\.1: ")
 
     def test_is_alone(self):
         """With another word it is no request, and refused."""

@@ -1,5 +1,6 @@
 """What the tests of `tools/` share: starting a tool, and waiting for what it tells."""
 
+import contextlib
 import os
 import queue
 import re
@@ -87,6 +88,16 @@ def stand_still(pid):
     threads = Path(f"/proc/{pid}/task")
     states = lambda: {each.read_text().rpartition(") ")[2][0] for each in threads.glob("*/stat")}
     wait_for(lambda: states() == {"T"}, f"process {pid} stands still")
+
+
+def open_files(pid):
+    """The files that a process has open."""
+    found = []
+    for each in Path(f"/proc/{pid}/fd").iterdir():
+        # One that is closed meanwhile is not there any more.
+        with contextlib.suppress(OSError):
+            found.append(each.readlink())
+    return found
 
 
 def wait_for(condition, what):

@@ -4,6 +4,7 @@ import contextlib
 import os
 import pty
 import random
+import re
 import select
 import shutil
 import socket
@@ -47,6 +48,14 @@ def received(receiver, wait=0.1):
     while select.select([receiver], [], [], wait)[0]:
         datagrams.append(receiver.recv(65536))
     return datagrams
+
+
+def socket_flags(process):
+    """The flags of each socket that a process has."""
+    descriptors = Path(f"/proc/{process}/fd")
+    sockets = [each for each in descriptors.iterdir() if os.readlink(each).startswith("socket:")]
+    told = [Path(f"/proc/{process}/fdinfo", each.name).read_text() for each in sockets]
+    return [int(re.search(r"(?m)^flags:\s+([0-7]+)$", each)[1], 8) for each in told]
 
 
 def terminal(test):
