@@ -1,12 +1,9 @@
 -- Texts one after the other: the parts of a line, lines, and the items of an array.
-use Rattle.std.proofs.Common.{◌≡◌, ℕ, ◌+◌, ◌<◌, ◌≤◌, ◌==◌, List, [], ◌∷◌, ◌++◌, length, get_or}
-use Rattle.std.proofs.Common.{suc, false, cond, nat_eq, take, ap, sym, ◌∙◌, arith, append_assoc}
-use Rattle.std.proofs.Common.{length-take}
-use Rattle.std.specs.Prelude.{codes, flat_map, if◌then◌else◌}
-use Rattle.std.proofs.lemmas.Bool.Decides.{nat_tests}
-use Rattle.std.proofs.lemmas.Grind.{flat_map-append}
-use Rattle.std.proofs.lemmas.List.{append-nil, take_all, take_more}
-use Rattle.cmd_cues.specs.Json.{array_text, items_text}
+use Rattle.cmd_cues.proofs.Terms.{◌≡◌, ℕ, ◌+◌, ◌<◌, ◌≤◌, ◌==◌, List, [], ◌∷◌, ◌++◌, length, get_or}
+use Rattle.cmd_cues.proofs.Terms.{suc, false, cond, nat_eq, take, ap, sym, ◌∙◌, arith, append_assoc}
+use Rattle.cmd_cues.proofs.Terms.{length-take, if◌then◌else◌, nat_tests, flat_map-append}
+use Rattle.cmd_cues.proofs.Terms.{append-nil, take_all, take_more, array_text, items_text}
+use Rattle.std.specs.Prelude.{codes, flat_map}
 
 regroup : (a b c d : List ℕ) → ((a ++ b) ++ c) ++ d ≡ a ++ ((b ++ c) ++ d)
 regroup a b c d = ap (λ t. t ++ d) (append_assoc a b c) ∙ append_assoc a (b ++ c) d

@@ -1,32 +1,17 @@
 -- What lines say of labels, one line after the other.
-use Rattle.std.proofs.Common.{◌≡◌, ℕ, ◌+◌, ◌≤◌, ◌&&◌, true, false, cond, List, [], ◌∷◌, ◌++◌}
-use Rattle.std.proofs.Common.{length, reverse, take, refl, sym, ap, subst, ◌∙◌, Option, Some}
-use Rattle.std.proofs.Common.{None}
-use Rattle.std.specs.Prelude.{codes, option_to_list, unwrap_or}
-use Rattle.std.specs.Option.{option_or}
-use Rattle.std.proofs.lemmas.List.{append-nil}
-use Rattle.std.proofs.lemmas.List.Sums.{fold-append}
-use mathlib.Core.List.{reverse_aux}
-use Rattle.ascii_text.specs.Text.{is_word, lines_of, numbered_from, words_of}
-use Rattle.show_line.specs.declared.line.Reading.{Reading}
-use Rattle.show_line.specs.declared.statement.Record.{Record}
-use Rattle.show_line.specs.declared.statement.Statement.{Statement}
-use Rattle.show_line.specs.declared.statement.Statement.TheVariants.{Opens, Quiet}
-use Rattle.show_line.specs.Keywords.{may_own}
-use Rattle.show_line.specs.Said.{desk_limits, record_opened, line_reading}
-use Rattle.show_reader.specs.Meaning.{Is, Silent, after, same_record}
-use Rattle.show_reader.specs.Text.{Words, owner_after, owner_below, said_under}
-use Rattle.cmd_explain.specs.Headings.{begins_with_word, keyword_in}
-use Rattle.cmd_explain.specs.Skipped.{words_in}
-use Rattle.cmd_explain.proofs.Lines.{all_that_are_read, all_that_are_there, none_left}
-use Rattle.cmd_explain.proofs.Lines.{reading_is}
-use Rattle.cmd_cues.specs.declared.label_line.LabelKind.{LabelKind}
-use Rattle.cmd_cues.specs.declared.label_line.LabelKind.TheVariants.{Text, Comment}
-use Rattle.cmd_cues.specs.declared.label_line.LabelLine.{LabelLine}
-use Rattle.cmd_cues.specs.Labels.{label_after, label_news_of, label_part}
-use Rattle.cmd_cues.specs.Labels.{last_label, names}
-use Rattle.cmd_cues.specs.LabelLines.{AreOf, label_by, label_if, last_label_by}
-use Rattle.cmd_cues.specs.LabelLines.{line_news, news_in}
+use Rattle.cmd_cues.proofs.Terms.{◌≡◌, ℕ, ◌+◌, ◌≤◌, ◌&&◌, true, false, cond, List, [], ◌∷◌, ◌++◌}
+use Rattle.cmd_cues.proofs.Terms.{length, reverse, take, refl, sym, ap, subst, ◌∙◌, Option, Some}
+use Rattle.cmd_cues.proofs.Terms.{None, option_to_list, unwrap_or, option_or, append-nil}
+use Rattle.cmd_cues.proofs.Terms.{fold-append, reverse_aux, is_word, lines_of, numbered_from}
+use Rattle.cmd_cues.proofs.Terms.{words_of, Reading, Record, Statement, Opens, Quiet, may_own}
+use Rattle.cmd_cues.proofs.Terms.{desk_limits, record_opened, line_reading, Is, Silent, after}
+use Rattle.cmd_cues.proofs.Terms.{same_record, Words, owner_after, owner_below, said_under}
+use Rattle.cmd_cues.proofs.Terms.{begins_with_word, keyword_in, words_in, all_that_are_read}
+use Rattle.cmd_cues.proofs.Terms.{all_that_are_there, none_left, reading_is, LabelKind, Text}
+use Rattle.cmd_cues.proofs.Terms.{Comment, LabelLine, label_after, label_news_of, label_part}
+use Rattle.cmd_cues.proofs.Terms.{last_label, names, AreOf, label_by, label_if, last_label_by}
+use Rattle.cmd_cues.proofs.Terms.{line_news, news_in}
+use Rattle.std.specs.Prelude.{codes}
 
 -- ---- one line
 

@@ -2,3 +2,4 @@ pub mod Items
 pub mod Labelling
 pub mod OneShow
 mod Rows
+mod Terms

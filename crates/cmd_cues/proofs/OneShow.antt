@@ -1,16 +1,8 @@
 -- A text means one show alone, so what is made of the show that was read is made of each.
-use Rattle.std.proofs.Common.{◌≡◌, ◌∙◌, ap, ℕ, List, reverse, take}
-use Rattle.ascii_text.specs.Text.{lines_of}
-use Rattle.show.specs.Tables.{Tables}
-use Rattle.show_line.specs.Said.{desk_limits}
-use Rattle.show_reader.specs.Reading.{lines_read}
-use Rattle.show_reader.specs.Shows.{IsShowOf}
-use Rattle.show_reader.specs.Text.{statements_of}
-use Rattle.show_reader.proofs.OneShow.{of_its_show}
-use Rattle.cmd_cues.specs.Json.{json_text}
-use Rattle.cmd_cues.specs.Labels.{label_after, label_in}
-use Rattle.cmd_cues.specs.Prints.{IsCueJson, IsCueTable}
-use Rattle.cmd_cues.specs.Table.{table_text}
+use Rattle.cmd_cues.proofs.Terms.{◌≡◌, ◌∙◌, ap, ℕ, List, reverse, take, lines_of, Tables}
+use Rattle.cmd_cues.proofs.Terms.{desk_limits, lines_read, IsShowOf, statements_of, of_its_show}
+use Rattle.cmd_cues.proofs.Terms.{json_text, label_after, label_in, IsCueJson, IsCueTable}
+use Rattle.cmd_cues.proofs.Terms.{table_text}
 
 module _ (show written : List ℕ) (lines : ℕ) (s : Tables)
     (is : IsShowOf (statements_of desk_limits show) s) (read : lines ≡ lines_read desk_limits show)

@@ -1,20 +1,13 @@
 -- The cues one after the other: from each the least one above it, which is found where it lies.
-use Rattle.std.proofs.Common.{◌≡◌, ℕ, ◌+◌, ◌<◌, ◌≤◌, T, IsTrue, List, [], ◌∷◌, ◌++◌, take, drop}
-use Rattle.std.proofs.Common.{length, length-append, Option, Some, None, refl, ap, sym, subst, ◌∙◌}
-use Rattle.std.proofs.Common.{arith, get_or}
-use Rattle.std.specs.Prelude.{All, find, map, nat_lt}
-use Rattle.std.specs.Ordering.{nat_cmp}
-use Rattle.std.specs.Cmp.{unsigned_tied}
+use Rattle.cmd_explain.proofs.Terms.{◌≡◌, ℕ, ◌+◌, ◌<◌, ◌≤◌, T, IsTrue, List, [], ◌∷◌, ◌++◌, take}
+use Rattle.cmd_explain.proofs.Terms.{drop, length, length-append, Option, Some, None, refl, ap, sym}
+use Rattle.cmd_explain.proofs.Terms.{subst, ◌∙◌, arith, get_or, All, find, nat_lt, nat_cmp}
+use Rattle.cmd_explain.proofs.Terms.{unsigned_tied, below_all, nat_tests, append-nil, drop_more}
+use Rattle.cmd_explain.proofs.Terms.{get_or-map, take-append-drop, take_more, CueData}
+use Rattle.cmd_explain.proofs.Terms.{is_cue_number, cue_above, CueMap, below_of, and_left}
+use Rattle.cmd_explain.proofs.Terms.{and_right, less}
+use Rattle.std.specs.Prelude.{map}
 use Rattle.std.specs.FinMap as maps
-use Rattle.std.specs.FinMap.Entries.{below_all}
-use Rattle.std.proofs.lemmas.Bool.Decides.{nat_tests}
-use Rattle.std.proofs.lemmas.List.{append-nil, drop_more, get_or-map, take-append-drop, take_more}
-use Rattle.show.specs.declared.cue.CueData.{CueData}
-use Rattle.show.specs.Numbers.{is_cue_number}
-use Rattle.show.specs.Readers.{cue_above}
-use Rattle.show.specs.Tables.{CueMap}
-use Rattle.show.proofs.Ordinals.{below_of}
-use Rattle.show.proofs.Sorted.{and_left, and_right, less}
 
 -- the key of the first entry
 abbrev pub first_key : {V : Type 0} → List (ℕ × V) → Option ℕ

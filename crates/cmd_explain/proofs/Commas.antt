@@ -1,8 +1,7 @@
 -- A comma between two digits, looked for byte by byte.
-use Rattle.std.proofs.Common.{◌≡◌, ◌∙◌, ℕ, ◌+◌, ◌≤◌, ◌<◌, ◌==◌, ◌||◌, false, cond, List}
-use Rattle.std.proofs.Common.{[], ◌∷◌, length, drop, get_or, refl, sym, ap, arith}
-use Rattle.std.proofs.lemmas.List.{drop_more}
-use Rattle.cmd_explain.specs.LineNotes.{has_decimal_comma, is_decimal}
+use Rattle.cmd_explain.proofs.Terms.{◌≡◌, ◌∙◌, ℕ, ◌+◌, ◌≤◌, ◌<◌, ◌==◌, ◌||◌, false, cond, List, []}
+use Rattle.cmd_explain.proofs.Terms.{◌∷◌, length, drop, get_or, refl, sym, ap, arith, drop_more}
+use Rattle.cmd_explain.proofs.Terms.{has_decimal_comma, is_decimal}
 
 module _ (line : List ℕ) (i j k d : ℕ) (second : j ≡ i + 1) (third : k ≡ j + 1)
     (within : k < length line) where

@@ -7,3 +7,4 @@ pub mod PartLists
 pub mod Pieces
 pub mod WholeText
 mod Rows
+mod Terms

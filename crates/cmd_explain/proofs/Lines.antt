@@ -1,24 +1,15 @@
 -- What is made of the lines of a text, one after the other.
-use Rattle.std.proofs.Common.{◌≡◌, ℕ, ◌+◌, ◌≤◌, Bool, true, false, cond, List, [], ◌∷◌}
-use Rattle.std.proofs.Common.{length, reverse, take, refl, sym, ap, ◌∙◌, arith, Option, Some, None}
-use Rattle.std.proofs.lemmas.Grind.{reverse_onto}
-use Rattle.std.proofs.lemmas.List.{length-reverse, reverse-reverse, take_all}
-use Rattle.std.proofs.Math.Seq.{take-append_seam}
-use mathlib.Core.List.{reverse_aux}
-use Rattle.ascii_text.specs.Text.{lines_of, numbered_from, words_of}
-use Rattle.show_line.specs.declared.keyword.Keyword.{Keyword}
-use Rattle.show_line.specs.declared.line.Reading.{Reading}
-use Rattle.show_line.specs.declared.statement.Record.{Record}
-use Rattle.show_line.specs.Keywords.{keyword_of}
-use Rattle.show_line.specs.Said.{desk_limits, record_opened, line_reading, statement_in}
-use Rattle.show_reader.specs.Meaning.{is_skipped}
-use Rattle.show_reader.specs.Text.{Words, owner_below, owns, said_under, statement_below}
-use Rattle.cmd_explain.specs.declared.heading.Heading.{Heading}
+use Rattle.cmd_explain.proofs.Terms.{◌≡◌, ℕ, ◌+◌, ◌≤◌, Bool, true, false, cond, List, [], ◌∷◌}
+use Rattle.cmd_explain.proofs.Terms.{length, reverse, take, refl, sym, ap, ◌∙◌, arith, Option, Some}
+use Rattle.cmd_explain.proofs.Terms.{None, reverse_onto, length-reverse, reverse-reverse, take_all}
+use Rattle.cmd_explain.proofs.Terms.{take-append_seam, reverse_aux, lines_of, numbered_from}
+use Rattle.cmd_explain.proofs.Terms.{words_of, Keyword, Reading, Record, keyword_of, desk_limits}
+use Rattle.cmd_explain.proofs.Terms.{record_opened, line_reading, statement_in, is_skipped, Words}
+use Rattle.cmd_explain.proofs.Terms.{owner_below, owns, said_under, statement_below, Heading}
+use Rattle.cmd_explain.proofs.Terms.{heading_below, heading_by, heading_of, is_clear, is_maker}
+use Rattle.cmd_explain.proofs.Terms.{keyword_in, operands, owner_of, reason_of, skipped_lines}
+use Rattle.cmd_explain.proofs.Terms.{skipped_line_below, skipped_line, words_in}
 use Rattle.cmd_explain.specs.declared.heading.Heading.TheVariants as heading
-use Rattle.cmd_explain.specs.Headings.{heading_below, heading_by, heading_of, is_clear}
-use Rattle.cmd_explain.specs.Headings.{is_maker, keyword_in, operands, owner_of}
-use Rattle.cmd_explain.specs.Reasons.{reason_of}
-use Rattle.cmd_explain.specs.Skipped.{skipped_lines, skipped_line_below, skipped_line, words_in}
 
 -- ---- one line
 

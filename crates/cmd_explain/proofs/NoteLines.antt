@@ -1,43 +1,22 @@
 -- The notes on the lines of a text, one line after the other.
-use Rattle.std.proofs.Common.{◌≡◌, ◌∙◌, ℕ, ◌+◌, ◌++◌, ◌≤◌, true, false, cond, List, [], ◌∷◌}
-use Rattle.std.proofs.Common.{length, reverse, take, refl, sym, ap, subst, Option, Some, None}
-use Rattle.std.proofs.Common.{arith}
-use Rattle.std.proofs.Common.{Vec, Global}
-use mathlib.Core.List.{reverse_aux}
-use Rattle.ascii_text.specs.Text.{lines_of, numbered_from, words_of}
-use Rattle.show.specs.Tables.{Tables}
-use Rattle.show_line.specs.declared.keyword.Keyword.{Keyword}
-use Rattle.show_line.specs.declared.line.Reading.{Reading}
-use Rattle.show_line.specs.declared.statement.Record.{Record}
-use Rattle.show_line.specs.declared.statement.Record.TheVariants.{Cue, Group, Sub}
-use Rattle.show_line.specs.declared.statement.Statement.{Statement}
-use Rattle.show_line.specs.declared.statement.Table.{Table}
-use Rattle.show_line.specs.declared.statement.Table.TheVariants.{Cues, Groups, Subs}
-use Rattle.show_line.specs.Keywords.{keyword_of, may_own}
-use Rattle.show_line.specs.Said.{desk_limits, line_reading}
-use Rattle.show_reader.specs.Text.{Words, owns}
-use Rattle.cmd_explain.specs.declared.cue_parts.Part.{Part}
-use Rattle.cmd_explain.specs.declared.heading.Heading.{Heading}
+use Rattle.cmd_explain.proofs.Terms.{◌≡◌, ◌∙◌, ℕ, ◌+◌, ◌++◌, ◌≤◌, true, false, cond, List, [], ◌∷◌}
+use Rattle.cmd_explain.proofs.Terms.{length, reverse, take, refl, sym, ap, subst, Option, Some}
+use Rattle.cmd_explain.proofs.Terms.{None, arith, Vec, Global, reverse_aux, lines_of, numbered_from}
+use Rattle.cmd_explain.proofs.Terms.{words_of, Tables, Keyword, Reading, Record, Cue, Group, Sub}
+use Rattle.cmd_explain.proofs.Terms.{Statement, Table, Cues, Groups, Subs, keyword_of, may_own}
+use Rattle.cmd_explain.proofs.Terms.{desk_limits, line_reading, Words, owns, Part, Heading}
+use Rattle.cmd_explain.proofs.Terms.{LineNotes, Openings, CuePart, part_of_line, newest_first}
+use Rattle.cmd_explain.proofs.Terms.{with_part, parts_below, parts_after, heading_below, heading_of}
+use Rattle.cmd_explain.proofs.Terms.{is_unknown, keyword_in, owner_of, notes_of_kind}
+use Rattle.cmd_explain.proofs.Terms.{desk_statement, link_note_on, link_note, times_on}
+use Rattle.cmd_explain.proofs.Terms.{comma_note_on, comma_note, hour_by, hour_note, again_by}
+use Rattle.cmd_explain.proofs.Terms.{openings, openings_after, AreMore, AreNotesOf, AreOpeningsOf}
+use Rattle.cmd_explain.proofs.Terms.{IsTaken, unknown_count, unknown_in, AreNumberedOf}
+use Rattle.cmd_explain.proofs.Terms.{IsNumberedTaken, has_no_words, list_above, list_after}
+use Rattle.cmd_explain.proofs.Terms.{numbers_above, numbers_after, run_by, NumberedLines}
+use Rattle.cmd_explain.proofs.Terms.{ArePatchNotesOf, IsPatchTaken, patch_note_on, sheet_after}
+use Rattle.cmd_explain.proofs.Terms.{sheet_below, PatchNotes, words_in}
 use Rattle.cmd_explain.specs.declared.heading.Heading.TheVariants as heading
-use Rattle.cmd_explain.specs.declared.note_lines.LineNotes.{LineNotes}
-use Rattle.cmd_explain.specs.declared.openings.Openings.{Openings}
-use Rattle.cmd_explain.specs.CueParts.{CuePart, part_of_line, newest_first, with_part, parts_below}
-use Rattle.cmd_explain.specs.CueParts.{parts_after}
-use Rattle.cmd_explain.specs.Headings.{heading_below, heading_of, is_unknown, keyword_in, owner_of}
-use Rattle.cmd_explain.specs.LineNotes.{notes_of_kind, desk_statement, link_note_on, link_note}
-use Rattle.cmd_explain.specs.LineNotes.{times_on}
-use Rattle.cmd_explain.specs.LineNotes.{comma_note_on, comma_note, hour_by, hour_note, again_by}
-use Rattle.cmd_explain.specs.LineNotes.{openings, openings_after}
-use Rattle.cmd_explain.specs.NotesOf.{AreMore, AreNotesOf, AreOpeningsOf, IsTaken}
-use Rattle.cmd_explain.specs.NotesOf.{unknown_count, unknown_in}
-use Rattle.cmd_explain.specs.NumberedLines.{AreNumberedOf, IsNumberedTaken, has_no_words}
-use Rattle.cmd_explain.specs.NumberedLines.{list_above}
-use Rattle.cmd_explain.specs.NumberedLines.{list_after, numbers_above, numbers_after, run_by}
-use Rattle.cmd_explain.specs.declared.numbered_lines.NumberedLines.{NumberedLines}
-use Rattle.cmd_explain.specs.PatchNotes.{ArePatchNotesOf, IsPatchTaken, patch_note_on}
-use Rattle.cmd_explain.specs.PatchNotes.{sheet_after, sheet_below}
-use Rattle.cmd_explain.specs.declared.patch_notes.PatchNotes.{PatchNotes}
-use Rattle.cmd_explain.specs.Skipped.{words_in}
 use Rattle.cmd_explain.proofs.Lines.{all_that_are_read, all_that_are_there, keyword_is}
 use Rattle.cmd_explain.proofs.Lines.{none_left, reading_is, statement_is}
 

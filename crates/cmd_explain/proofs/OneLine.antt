@@ -1,11 +1,6 @@
 -- A note is one line.
-use Rattle.std.proofs.Common.{◌≤◌, ℕ, List, map, arith}
-use Rattle.std.specs.Prelude.{All}
-use Rattle.std.specs.List.{slice_index_or}
-use Rattle.std.proofs.lemmas.Bool.Decides.{nat_tests}
-use Rattle.std.proofs.lemmas.List.Elements.{All-map}
-use Rattle.cmd_explain.specs.Explanation.{IsOneLine}
-use Rattle.cmd_explain.specs.Skipped.{display_text, display_byte}
+use Rattle.cmd_explain.proofs.Terms.{◌≤◌, ℕ, List, map, arith, All, slice_index_or, nat_tests}
+use Rattle.cmd_explain.proofs.Terms.{All-map, IsOneLine, display_text, display_byte}
 
 in_range : (byte : ℕ) → (32 ≤ display_byte byte) × (display_byte byte ≤ 126)
 in_range byte = grind (arith, nat_tests)

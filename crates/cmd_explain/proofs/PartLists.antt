@@ -1,15 +1,10 @@
 -- The parts of a cue among all parts, one part after the other.
-use Rattle.std.proofs.Common.{◌≡◌, ◌∙◌, ℕ, zero, suc, ◌+◌, ◌<◌, ◌++◌, ◌==◌, Bool, cond}
-use Rattle.std.proofs.Common.{List, [], ◌∷◌, length, map, flat_map, reverse, take, drop, get_or}
-use Rattle.std.proofs.Common.{refl, sym, ap, arith}
-use Rattle.std.specs.Prelude.{filter}
-use Rattle.std.specs.List.{range_with_len}
-use Rattle.std.proofs.lemmas.Bool.{eq-eqb, ne_eqb}
-use Rattle.std.proofs.lemmas.List.{append-nil, drop_more, flat_map_more, map-append, map_more}
-use Rattle.std.proofs.lemmas.List.{map_push, reverse-append, take-append-drop}
-use Rattle.std.proofs.lemmas.List.Elements.{filter-append}
-use Rattle.cmd_explain.specs.CueParts.{CuePart, change_last, part_of}
-use Rattle.cmd_explain.specs.declared.cue_parts.Part.{Part}
+use Rattle.cmd_explain.proofs.Terms.{◌≡◌, ◌∙◌, ℕ, zero, suc, ◌+◌, ◌<◌, ◌++◌, ◌==◌, Bool, cond, List}
+use Rattle.cmd_explain.proofs.Terms.{[], ◌∷◌, length, map, flat_map, reverse, take, drop, get_or}
+use Rattle.cmd_explain.proofs.Terms.{refl, sym, ap, arith, filter, range_with_len, eq-eqb, ne_eqb}
+use Rattle.cmd_explain.proofs.Terms.{append-nil, drop_more, flat_map_more, map-append, map_more}
+use Rattle.cmd_explain.proofs.Terms.{map_push, reverse-append, take-append-drop, filter-append}
+use Rattle.cmd_explain.proofs.Terms.{CuePart, change_last, part_of, Part}
 
 module _ {X Y : Type 0} (test : Y → Bool) (f : X → Y) where
   -- what is kept of one more

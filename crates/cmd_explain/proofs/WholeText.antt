@@ -1,20 +1,9 @@
 -- What `explain` prints, put together from its parts.
-use Rattle.std.proofs.Common.{◌≡◌, ◌∙◌, ℕ, ◌++◌, List, map, flat_map, reverse, take, ap, subst}
-use Rattle.std.specs.Prelude.{All}
-use Rattle.ascii_text.specs.Text.{lines_of}
-use Rattle.show.specs.Tables.{Tables}
-use Rattle.show_line.specs.Said.{desk_limits}
-use Rattle.show_reader.proofs.OneShow.{of_its_show}
-use Rattle.show_reader.specs.Reading.{lines_read}
-use Rattle.show_reader.specs.Shows.{IsShowOf}
-use Rattle.show_reader.specs.Text.{statements_of}
-use Rattle.cmd_explain.specs.Explanation.{IsExplanationOf, IsOneLine, IsTextOf}
-use Rattle.cmd_explain.specs.Encoding.{encoding_notes}
-use Rattle.cmd_explain.specs.LineNotes.{note_line}
-use Rattle.cmd_explain.specs.NotesOf.{line_notes}
-use Rattle.cmd_explain.specs.NumberedLines.{numbered_notes}
-use Rattle.cmd_explain.specs.ShowNotes.{show_notes}
-use Rattle.cmd_explain.specs.Skipped.{skipped_lines, display_text}
+use Rattle.cmd_explain.proofs.Terms.{◌≡◌, ◌∙◌, ℕ, ◌++◌, List, map, flat_map, reverse, take, ap}
+use Rattle.cmd_explain.proofs.Terms.{subst, All, lines_of, Tables, desk_limits, of_its_show}
+use Rattle.cmd_explain.proofs.Terms.{lines_read, IsShowOf, statements_of, IsExplanationOf}
+use Rattle.cmd_explain.proofs.Terms.{IsOneLine, IsTextOf, encoding_notes, note_line, line_notes}
+use Rattle.cmd_explain.proofs.Terms.{numbered_notes, show_notes, skipped_lines, display_text}
 use Rattle.cmd_explain.proofs.OneLine.{one_line_each}
 
 -- notes of one line each were put behind a text

@@ -1,5 +1,4 @@
-use Rattle.std.proofs.Common.{◌∙◌, ◌++◌, [], ◌∷◌, ap, append_assoc, replicate}
-use Rattle.std.proofs.lemmas.List.{replicate_more}
+use Rattle.cmd_cues.proofs.Terms.{◌∙◌, ◌++◌, [], ◌∷◌, ap, append_assoc, replicate, replicate_more}
 use Rattle.cmd_cues.proofs.cell.push_spaces.Goals as goal
 
 pub loop-space-preserved : goal.loop-space-preserved

@@ -1,4 +1,4 @@
-use Rattle.std.proofs.Common.{◌≡◌, ◌++◌, replicate}
+use Rattle.cmd_cues.proofs.Terms.{◌≡◌, ◌++◌, replicate}
 use Rattle.cmd_cues.proofs.cell.push_spaces.Given as goal
 
 abbrev pub invariant-loop-space : goal.invariant-loop-space

@@ -1,4 +1,4 @@
-use Rattle.std.proofs.Common.{◌≡◌, ◌∙◌, ap, sym, length}
+use Rattle.cmd_cues.proofs.Terms.{◌≡◌, ◌∙◌, ap, sym, length}
 use Rattle.std.specs.FinMap as maps
 use Rattle.cmd_cues.proofs.cue_rows.cue_row.Goals as goal
 

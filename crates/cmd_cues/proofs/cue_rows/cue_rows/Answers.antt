@@ -1,10 +1,7 @@
-use Rattle.std.proofs.Common.{◌∙◌, ◌<◌, ◌≤◌, ◌∷◌, ◌++◌, [], length, map, take, refl, ap}
-use Rattle.std.proofs.Common.{sym}
-use Rattle.std.proofs.Common.{arith, get_or}
+use Rattle.cmd_cues.proofs.Terms.{◌∙◌, ◌<◌, ◌≤◌, ◌∷◌, ◌++◌, [], length, map, take, refl, ap, sym}
+use Rattle.cmd_cues.proofs.Terms.{arith, get_or, get_or_default, length-map, map-append, take_all}
+use Rattle.cmd_cues.proofs.Terms.{cue_row, entry_at}
 use Rattle.std.specs.FinMap as maps
-use Rattle.std.proofs.lemmas.List.{get_or_default, length-map, map-append, take_all}
-use Rattle.cmd_cues.specs.Rows.{cue_row}
-use Rattle.cmd_explain.proofs.Ascending.{entry_at}
 use Rattle.cmd_cues.proofs.cue_rows.cue_rows.Goals as goal
 
 pub loop-number-preserved : goal.loop-number-preserved

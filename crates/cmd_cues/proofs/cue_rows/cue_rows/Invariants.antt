@@ -1,6 +1,5 @@
-use Rattle.std.proofs.Common.{◌≡◌, map, take}
+use Rattle.cmd_cues.proofs.Terms.{◌≡◌, map, take, cue_row}
 use Rattle.std.specs.FinMap as maps
-use Rattle.cmd_cues.specs.Rows.{cue_row}
 use Rattle.cmd_cues.proofs.cue_rows.cue_rows.Given as goal
 
 abbrev pub invariant-loop-number : goal.invariant-loop-number

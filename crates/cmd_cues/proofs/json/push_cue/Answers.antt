@@ -1,7 +1,4 @@
-use Rattle.std.proofs.Common.{◌≡◌, ◌∙◌, ◌++◌, ap, codes}
-use Rattle.show_line.specs.declared.statement.Record.TheVariants.{Cue}
-use Rattle.cmd_cues.specs.Json.{string_text}
-use Rattle.cmd_cues.specs.LabelLines.{label_by}
+use Rattle.cmd_cues.proofs.Terms.{◌≡◌, ◌∙◌, ◌++◌, ap, codes, Cue, string_text, label_by}
 use Rattle.cmd_cues.proofs.Items.{behind}
 use Rattle.cmd_cues.proofs.json.push_cue.Goals as goal
 

@@ -1,6 +1,4 @@
-use Rattle.std.proofs.Common.{refl}
-use Rattle.cmd_cues.specs.Json.{cue_object}
-use Rattle.cmd_cues.specs.LabelLines.{label_by}
+use Rattle.cmd_cues.proofs.Terms.{refl, cue_object, label_by}
 use Rattle.cmd_cues.proofs.Items.{next_item}
 use Rattle.cmd_cues.proofs.json.push_cues.Goals as goal
 

@@ -1,6 +1,4 @@
-use Rattle.std.proofs.Common.{◌≡◌, ◌++◌, codes, take}
-use Rattle.cmd_cues.specs.Json.{items_text, cue_object}
-use Rattle.cmd_cues.specs.LabelLines.{label_by}
+use Rattle.cmd_cues.proofs.Terms.{◌≡◌, ◌++◌, codes, take, items_text, cue_object, label_by}
 use Rattle.cmd_cues.proofs.json.push_cues.Given as goal
 
 abbrev pub invariant-loop-place : goal.invariant-loop-place

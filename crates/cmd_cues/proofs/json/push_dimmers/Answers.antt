@@ -1,5 +1,4 @@
-use Rattle.std.proofs.Common.{refl}
-use Rattle.cmd_cues.specs.Json.{dimmer_object}
+use Rattle.cmd_cues.proofs.Terms.{refl, dimmer_object}
 use Rattle.cmd_cues.proofs.Items.{next_item}
 use Rattle.cmd_cues.proofs.json.push_dimmers.Goals as goal
 

@@ -1,5 +1,4 @@
-use Rattle.std.proofs.Common.{◌≡◌, ◌++◌, codes, take}
-use Rattle.cmd_cues.specs.Json.{items_text, dimmer_object}
+use Rattle.cmd_cues.proofs.Terms.{◌≡◌, ◌++◌, codes, take, items_text, dimmer_object}
 use Rattle.cmd_cues.proofs.json.push_dimmers.Given as goal
 
 abbrev pub invariant-loop-place : goal.invariant-loop-place

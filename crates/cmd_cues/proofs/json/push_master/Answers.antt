@@ -1,9 +1,6 @@
-use Rattle.std.proofs.Common.{◌≡◌, ◌∙◌, ◌++◌, ap, codes}
-use Rattle.std.specs.Prelude.{decimal}
+use Rattle.cmd_cues.proofs.Terms.{◌≡◌, ◌∙◌, ◌++◌, ap, codes, decimal, string_text, label_by}
+use Rattle.cmd_cues.proofs.Terms.{record_in}
 use Rattle.std.specs.FinMap as maps
-use Rattle.cmd_cues.specs.Json.{string_text}
-use Rattle.cmd_cues.specs.LabelLines.{label_by}
-use Rattle.cmd_cues.specs.Masters.{record_in}
 use Rattle.cmd_cues.proofs.Items.{behind}
 use Rattle.cmd_cues.proofs.json.push_master.Goals as goal
 

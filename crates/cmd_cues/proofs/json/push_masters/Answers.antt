@@ -1,7 +1,4 @@
-use Rattle.std.proofs.Common.{ap}
-use Rattle.cmd_cues.specs.Json.{master_object}
-use Rattle.cmd_cues.specs.LabelLines.{label_by}
-use Rattle.cmd_cues.specs.Masters.{record_in}
+use Rattle.cmd_cues.proofs.Terms.{ap, master_object, label_by, record_in}
 use Rattle.cmd_cues.proofs.Items.{next_item}
 use Rattle.cmd_cues.proofs.json.push_masters.Goals as goal
 

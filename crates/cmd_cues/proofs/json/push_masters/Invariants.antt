@@ -1,7 +1,5 @@
-use Rattle.std.proofs.Common.{◌≡◌, ◌++◌, codes, take}
-use Rattle.cmd_cues.specs.Json.{items_text, master_object}
-use Rattle.cmd_cues.specs.LabelLines.{label_by}
-use Rattle.cmd_cues.specs.Masters.{record_in}
+use Rattle.cmd_cues.proofs.Terms.{◌≡◌, ◌++◌, codes, take, items_text, master_object, label_by}
+use Rattle.cmd_cues.proofs.Terms.{record_in}
 use Rattle.cmd_cues.proofs.json.push_masters.Given as goal
 
 abbrev pub invariant-loop-place : goal.invariant-loop-place

@@ -1,5 +1,4 @@
-use Rattle.std.proofs.Common.{◌≡◌, ◌++◌, codes, flat_map, take}
-use Rattle.cmd_cues.specs.Json.{string_byte}
+use Rattle.cmd_cues.proofs.Terms.{◌≡◌, ◌++◌, codes, flat_map, take, string_byte}
 use Rattle.cmd_cues.proofs.json.push_string.Given as goal
 
 abbrev pub invariant-loop-byte : goal.invariant-loop-byte

@@ -1,6 +1,4 @@
-use Rattle.std.proofs.Common.{◌≡◌, ◌∙◌, ◌+◌, ◌++◌, ap, codes}
-use Rattle.std.specs.Prelude.{decimal}
-use Rattle.cmd_cues.specs.Rows.{dimmer_count}
+use Rattle.cmd_cues.proofs.Terms.{◌≡◌, ◌∙◌, ◌+◌, ◌++◌, ap, codes, decimal, dimmer_count}
 use Rattle.cmd_cues.proofs.Items.{behind}
 use Rattle.cmd_cues.proofs.json.push_universe.Goals as goal
 

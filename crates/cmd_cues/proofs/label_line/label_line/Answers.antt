@@ -1,5 +1,4 @@
-use Rattle.std.proofs.Common.{◌∙◌, ap, sym}
-use Rattle.cmd_cues.specs.Labels.{label_news_of}
+use Rattle.cmd_cues.proofs.Terms.{◌∙◌, ap, sym, label_news_of}
 use Rattle.cmd_cues.proofs.Labelling.{opening_news}
 use Rattle.cmd_cues.proofs.label_line.label_line.Goals as goal
 

@@ -1,6 +1,4 @@
-use Rattle.std.proofs.Common.{◌∙◌, ap, sym}
-use Rattle.show_line.specs.declared.statement.Statement.TheVariants.{Quiet}
-use Rattle.cmd_cues.specs.Labels.{label_news_of}
+use Rattle.cmd_cues.proofs.Terms.{◌∙◌, ap, sym, Quiet, label_news_of}
 use Rattle.cmd_cues.proofs.Labelling.{quiet_news, text_news}
 use Rattle.cmd_cues.proofs.label_line.text_label.Goals as goal
 

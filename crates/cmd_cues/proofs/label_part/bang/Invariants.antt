@@ -1,6 +1,4 @@
-use Rattle.std.proofs.Common.{◌≡◌, ◌+◌, ◌-◌, ◌≤◌, length, drop}
-use Rattle.std.specs.List.{position_or_len}
-use Rattle.ascii_text.specs.Text.{is_bang}
+use Rattle.cmd_cues.proofs.Terms.{◌≡◌, ◌+◌, ◌-◌, ◌≤◌, length, drop, position_or_len, is_bang}
 use Rattle.cmd_cues.proofs.label_part.bang.Given as goal
 
 abbrev pub invariant-loop-end : goal.invariant-loop-end

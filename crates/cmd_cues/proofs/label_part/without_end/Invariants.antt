@@ -1,6 +1,4 @@
-use Rattle.std.proofs.Common.{◌≡◌, ◌+◌, ◌-◌, ◌≤◌, length, take}
-use Rattle.std.specs.List.{suffix_len}
-use Rattle.cmd_cues.specs.Labels.{is_edge}
+use Rattle.cmd_cues.proofs.Terms.{◌≡◌, ◌+◌, ◌-◌, ◌≤◌, length, take, suffix_len, is_edge}
 use Rattle.cmd_cues.proofs.label_part.without_end.Given as goal
 
 abbrev pub invariant-loop-end : goal.invariant-loop-end

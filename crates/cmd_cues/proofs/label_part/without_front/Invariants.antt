@@ -1,6 +1,4 @@
-use Rattle.std.proofs.Common.{◌≡◌, ◌+◌, ◌-◌, ◌≤◌, length, drop}
-use Rattle.std.specs.List.{prefix_len}
-use Rattle.cmd_cues.specs.Labels.{is_edge}
+use Rattle.cmd_cues.proofs.Terms.{◌≡◌, ◌+◌, ◌-◌, ◌≤◌, length, drop, prefix_len, is_edge}
 use Rattle.cmd_cues.proofs.label_part.without_front.Given as goal
 
 abbrev pub invariant-loop-start : goal.invariant-loop-start

@@ -1,4 +1,4 @@
-use Rattle.std.proofs.Common.{◌∙◌, rules}
+use Rattle.cmd_cues.proofs.Terms.{◌∙◌, rules}
 use Rattle.cmd_cues.proofs.OneShow.{table_of}
 use Rattle.cmd_cues.proofs.listing.cues.Goals as goal
 

@@ -1,4 +1,4 @@
-use Rattle.std.proofs.Common.{◌∙◌, rules}
+use Rattle.cmd_cues.proofs.Terms.{◌∙◌, rules}
 use Rattle.cmd_cues.proofs.OneShow.{json_of}
 use Rattle.cmd_cues.proofs.listing.cues_json.Goals as goal
 

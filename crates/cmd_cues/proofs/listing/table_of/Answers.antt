@@ -1,6 +1,4 @@
-use Rattle.std.proofs.Common.{◌≡◌, subst, take, reverse, IfOk}
-use Rattle.ascii_text.specs.Text.{lines_of}
-use Rattle.cmd_cues.specs.Table.{table_text}
+use Rattle.cmd_cues.proofs.Terms.{◌≡◌, subst, take, reverse, IfOk, lines_of, table_text}
 use Rattle.cmd_cues.proofs.Labelling.{all_labels}
 use Rattle.cmd_cues.proofs.listing.table_of.Goals as goal
 

@@ -1,7 +1,4 @@
-use Rattle.std.proofs.Common.{◌≡◌, ◌∙◌, ◌++◌, ap}
-use Rattle.show_line.specs.declared.statement.Record.TheVariants.{Cue}
-use Rattle.cmd_cues.specs.LabelLines.{label_by}
-use Rattle.cmd_cues.specs.Table.{label_cell}
+use Rattle.cmd_cues.proofs.Terms.{◌≡◌, ◌∙◌, ◌++◌, ap, Cue, label_by, label_cell}
 use Rattle.cmd_cues.proofs.Items.{behind}
 use Rattle.cmd_cues.proofs.table.push_cue.Goals as goal
 

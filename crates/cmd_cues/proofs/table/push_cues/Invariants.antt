@@ -1,6 +1,4 @@
-use Rattle.std.proofs.Common.{◌≡◌, ◌++◌, flat_map, take}
-use Rattle.cmd_cues.specs.Table.{cue_table_line}
-use Rattle.cmd_cues.specs.LabelLines.{label_by}
+use Rattle.cmd_cues.proofs.Terms.{◌≡◌, ◌++◌, flat_map, take, cue_table_line, label_by}
 use Rattle.cmd_cues.proofs.table.push_cues.Given as goal
 
 abbrev pub invariant-loop-cue : goal.invariant-loop-cue

@@ -1,9 +1,6 @@
-use Rattle.std.proofs.Common.{◌≡◌, ◌∙◌, ◌++◌, ap}
-use Rattle.std.specs.Prelude.{decimal}
+use Rattle.cmd_cues.proofs.Terms.{◌≡◌, ◌∙◌, ◌++◌, ap, decimal, label_by, record_in, cell}
+use Rattle.cmd_cues.proofs.Terms.{label_cell}
 use Rattle.std.specs.FinMap as maps
-use Rattle.cmd_cues.specs.LabelLines.{label_by}
-use Rattle.cmd_cues.specs.Masters.{record_in}
-use Rattle.cmd_cues.specs.Table.{cell, label_cell}
 use Rattle.cmd_cues.proofs.Items.{behind}
 use Rattle.cmd_cues.proofs.table.push_master.Goals as goal
 

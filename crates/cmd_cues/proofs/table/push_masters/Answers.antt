@@ -1,7 +1,4 @@
-use Rattle.std.proofs.Common.{ap}
-use Rattle.cmd_cues.specs.LabelLines.{label_by}
-use Rattle.cmd_cues.specs.Masters.{record_in}
-use Rattle.cmd_cues.specs.Table.{master_table_line}
+use Rattle.cmd_cues.proofs.Terms.{ap, label_by, record_in, master_table_line}
 use Rattle.cmd_cues.proofs.Items.{next_line}
 use Rattle.cmd_cues.proofs.table.push_masters.Goals as goal
 

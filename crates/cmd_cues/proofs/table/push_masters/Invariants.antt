@@ -1,7 +1,5 @@
-use Rattle.std.proofs.Common.{◌≡◌, ◌++◌, flat_map, take}
-use Rattle.cmd_cues.specs.Table.{master_table_line}
-use Rattle.cmd_cues.specs.LabelLines.{label_by}
-use Rattle.cmd_cues.specs.Masters.{masters_head, record_in}
+use Rattle.cmd_cues.proofs.Terms.{◌≡◌, ◌++◌, flat_map, take, master_table_line, label_by}
+use Rattle.cmd_cues.proofs.Terms.{masters_head, record_in}
 use Rattle.cmd_cues.proofs.table.push_masters.Given as goal
 
 abbrev pub invariant-loop-number : goal.invariant-loop-number

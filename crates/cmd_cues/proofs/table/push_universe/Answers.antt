@@ -1,7 +1,4 @@
-use Rattle.std.proofs.Common.{◌≡◌, ◌∙◌, ◌+◌, ◌++◌, ap}
-use Rattle.std.specs.Prelude.{decimal}
-use Rattle.cmd_cues.specs.Rows.{dimmer_count}
-use Rattle.cmd_cues.specs.Table.{cell}
+use Rattle.cmd_cues.proofs.Terms.{◌≡◌, ◌∙◌, ◌+◌, ◌++◌, ap, decimal, dimmer_count, cell}
 use Rattle.cmd_cues.proofs.Items.{behind}
 use Rattle.cmd_cues.proofs.table.push_universe.Goals as goal
 

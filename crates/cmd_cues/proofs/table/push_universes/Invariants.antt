@@ -1,5 +1,4 @@
-use Rattle.std.proofs.Common.{◌≡◌, ◌++◌, codes, flat_map, take}
-use Rattle.cmd_cues.specs.Table.{universe_table_line}
+use Rattle.cmd_cues.proofs.Terms.{◌≡◌, ◌++◌, codes, flat_map, take, universe_table_line}
 use Rattle.cmd_cues.proofs.table.push_universes.Given as goal
 
 abbrev pub invariant-loop-ordinal : goal.invariant-loop-ordinal

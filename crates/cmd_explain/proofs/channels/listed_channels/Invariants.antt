@@ -1,5 +1,4 @@
-use Rattle.std.proofs.Common.{◌≡◌, ℕ, take}
-use Rattle.cmd_explain.specs.ShowNotes.{is_listed, is_marked}
+use Rattle.cmd_explain.proofs.Terms.{◌≡◌, ℕ, take, is_listed, is_marked}
 use Rattle.cmd_explain.proofs.channels.listed_channels.Given as goal
 
 abbrev pub invariant-loop-n : goal.invariant-loop-n

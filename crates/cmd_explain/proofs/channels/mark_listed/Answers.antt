@@ -1,9 +1,6 @@
-use Rattle.std.proofs.Common.{arith, subst, sym, IsTrue}
-use Rattle.std.specs.Prelude.{All}
+use Rattle.cmd_explain.proofs.Terms.{arith, subst, sym, IsTrue, All, nat_tests, is_channel}
+use Rattle.cmd_explain.proofs.Terms.{entries_from_keys}
 use Rattle.std.specs.FinMap as maps
-use Rattle.std.proofs.lemmas.Bool.Decides.{nat_tests}
-use Rattle.show.specs.Numbers.{is_channel}
-use Rattle.show.proofs.Ranges.{entries_from_keys}
 use Rattle.cmd_explain.proofs.channels.mark_listed.Goals as goal
 
 pub mark-requires : goal.mark-requires

@@ -1,5 +1,4 @@
-use Rattle.std.proofs.Common.{◌≡◌, ℕ, zero, suc, false, get_or, refl}
-use Rattle.std.specs.Prelude.{replicate}
+use Rattle.cmd_explain.proofs.Terms.{◌≡◌, ℕ, zero, suc, false, get_or, refl, replicate}
 use Rattle.cmd_explain.proofs.channels.no_channels.Goals as goal
 
 none_marked : (n i : ℕ) → get_or (replicate n false) i false ≡ false

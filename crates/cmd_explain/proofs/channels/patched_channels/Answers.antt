@@ -1,5 +1,4 @@
-use Rattle.std.proofs.Common.{arith}
-use Rattle.std.proofs.lemmas.Bool.Decides.{nat_tests}
+use Rattle.cmd_explain.proofs.Terms.{arith, nat_tests}
 use Rattle.cmd_explain.proofs.channels.patched_channels.Goals as goal
 
 pub mark-requires : goal.mark-requires

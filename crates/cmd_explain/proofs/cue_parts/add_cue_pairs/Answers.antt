@@ -1,5 +1,4 @@
-use Rattle.std.proofs.Common.{ap}
-use Rattle.cmd_explain.specs.CueParts.{part_of, part_with_pairs}
+use Rattle.cmd_explain.proofs.Terms.{ap, part_of, part_with_pairs}
 use Rattle.cmd_explain.proofs.PartLists.{change_last_is}
 use Rattle.cmd_explain.proofs.cue_parts.add_cue_pairs.Goals as goal
 

@@ -1,6 +1,5 @@
-use Rattle.std.proofs.Common.{◌∙◌, ◌∷◌, ℕ, List, Option, Vec, Global, ap, map, reverse}
-use Rattle.std.specs.Prelude.{option_map}
-use Rattle.cmd_explain.specs.CueParts.{CuePart, new_part, part_of}
+use Rattle.cmd_explain.proofs.Terms.{◌∙◌, ◌∷◌, ℕ, List, Option, Vec, Global, ap, map, reverse}
+use Rattle.cmd_explain.proofs.Terms.{option_map, CuePart, new_part, part_of}
 use Rattle.cmd_explain.proofs.PartLists.{newest_more}
 use Rattle.cmd_explain.proofs.cue_parts.add_part.Goals as goal
 

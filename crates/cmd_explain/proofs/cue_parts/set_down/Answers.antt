@@ -1,5 +1,4 @@
-use Rattle.std.proofs.Common.{refl}
-use Rattle.cmd_explain.specs.CueParts.{part_with_down}
+use Rattle.cmd_explain.proofs.Terms.{refl, part_with_down}
 use Rattle.cmd_explain.proofs.PartLists.{change_last_is}
 use Rattle.cmd_explain.proofs.cue_parts.set_down.Goals as goal
 

@@ -1,6 +1,6 @@
-use Rattle.std.proofs.Common.{◌≡◌, ◌∙◌, ◌++◌, List, ℕ, ap, append_assoc}
-use Rattle.cmd_explain.specs.Encoding.{cr_text, encoding_notes, has_cr_alone, has_mark}
-use Rattle.cmd_explain.specs.Encoding.{is_utf_16, mark_text, note_if, utf_16_text}
+use Rattle.cmd_explain.proofs.Terms.{◌≡◌, ◌∙◌, ◌++◌, List, ℕ, ap, append_assoc, cr_text}
+use Rattle.cmd_explain.proofs.Terms.{encoding_notes, has_cr_alone, has_mark, is_utf_16, mark_text}
+use Rattle.cmd_explain.proofs.Terms.{note_if, utf_16_text}
 use Rattle.cmd_explain.proofs.encoding.push_encoding.Goals as goal
 
 pub returns : goal.returns

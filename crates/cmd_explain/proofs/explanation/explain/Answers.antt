@@ -1,5 +1,4 @@
-use Rattle.std.proofs.Common.{subst, sym}
-use Rattle.cmd_explain.specs.Explanation.{IsTextOf}
+use Rattle.cmd_explain.proofs.Terms.{subst, sym, IsTextOf}
 use Rattle.cmd_explain.proofs.WholeText.{its_text}
 use Rattle.cmd_explain.proofs.explanation.explain.Goals as goal
 

@@ -1,5 +1,4 @@
-use Rattle.std.proofs.Common.{◌≡◌, ◌∙◌, rules}
-use Rattle.cmd_explain.specs.Encoding.{encoding_notes}
+use Rattle.cmd_explain.proofs.Terms.{◌≡◌, ◌∙◌, rules, encoding_notes}
 use Rattle.cmd_explain.proofs.WholeText.{adds, whole_text}
 use Rattle.cmd_explain.proofs.explanation.explanation.Goals as goal
 

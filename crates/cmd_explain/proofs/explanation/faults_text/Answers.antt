@@ -1,7 +1,5 @@
-use Rattle.std.proofs.Common.{◌≡◌, ◌∙◌, ◌++◌, map, flat_map, ap, rules}
-use Rattle.cmd_explain.specs.Encoding.{encoding_notes}
-use Rattle.cmd_explain.specs.Explanation.{text_line}
-use Rattle.cmd_explain.specs.Skipped.{display_text}
+use Rattle.cmd_explain.proofs.Terms.{◌≡◌, ◌∙◌, ◌++◌, map, flat_map, ap, rules, encoding_notes}
+use Rattle.cmd_explain.proofs.Terms.{text_line, display_text}
 use Rattle.cmd_explain.proofs.OneLine.{one_line_each}
 use Rattle.cmd_explain.proofs.explanation.faults_text.Goals as goal
 

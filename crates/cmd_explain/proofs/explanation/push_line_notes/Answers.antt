@@ -1,6 +1,4 @@
-use Rattle.std.proofs.Common.{◌∙◌, ◌++◌, ap}
-use Rattle.cmd_explain.specs.LineNotes.{hour_note, notes_of_kind}
-use Rattle.cmd_explain.specs.NotesOf.{weighty_line_notes}
+use Rattle.cmd_explain.proofs.Terms.{◌∙◌, ◌++◌, ap, hour_note, notes_of_kind, weighty_line_notes}
 use Rattle.cmd_explain.proofs.Pieces.{joins}
 use Rattle.cmd_explain.proofs.explanation.push_line_notes.Goals as goal
 

@@ -1,6 +1,4 @@
-use Rattle.std.proofs.Common.{◌≡◌, ◌++◌, flat_map, map, take}
-use Rattle.cmd_explain.specs.Explanation.{text_line}
-use Rattle.cmd_explain.specs.Skipped.{display_text}
+use Rattle.cmd_explain.proofs.Terms.{◌≡◌, ◌++◌, flat_map, map, take, text_line, display_text}
 use Rattle.cmd_explain.proofs.explanation.push_lines.Given as goal
 
 abbrev pub invariant-loop-line : goal.invariant-loop-line

@@ -1,6 +1,4 @@
-use Rattle.std.proofs.Common.{◌≡◌, ◌++◌, flat_map, map, take}
-use Rattle.cmd_explain.specs.LineNotes.{note_line}
-use Rattle.cmd_explain.specs.Skipped.{display_text}
+use Rattle.cmd_explain.proofs.Terms.{◌≡◌, ◌++◌, flat_map, map, take, note_line, display_text}
 use Rattle.cmd_explain.proofs.explanation.push_notes.Given as goal
 
 abbrev pub invariant-loop-note : goal.invariant-loop-note

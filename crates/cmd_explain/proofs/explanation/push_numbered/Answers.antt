@@ -1,6 +1,5 @@
-use Rattle.std.proofs.Common.{◌∙◌, ◌++◌, ap}
-use Rattle.cmd_explain.specs.LineNotes.{notes_of_kind}
-use Rattle.cmd_explain.specs.NumberedLines.{list_above, numbers_above, run_note, note_on_run}
+use Rattle.cmd_explain.proofs.Terms.{◌∙◌, ◌++◌, ap, notes_of_kind, list_above, numbers_above}
+use Rattle.cmd_explain.proofs.Terms.{run_note, note_on_run}
 use Rattle.cmd_explain.proofs.Pieces.{joins}
 use Rattle.cmd_explain.proofs.explanation.push_numbered.Goals as goal
 

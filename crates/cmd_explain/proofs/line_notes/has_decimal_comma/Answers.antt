@@ -1,4 +1,4 @@
-use Rattle.std.proofs.Common.{◌≡◌, ◌∙◌, ◌-◌, ◌+◌, ◌≤◌, length, drop, arith, sym, length-drop}
+use Rattle.cmd_explain.proofs.Terms.{◌≡◌, ◌∙◌, ◌-◌, ◌+◌, ◌≤◌, length, drop, arith, sym, length-drop}
 use Rattle.cmd_explain.proofs.Commas.{comma_at, too_few}
 use Rattle.cmd_explain.proofs.line_notes.has_decimal_comma.Goals as goal
 

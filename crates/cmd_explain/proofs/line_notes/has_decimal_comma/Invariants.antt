@@ -1,5 +1,4 @@
-use Rattle.std.proofs.Common.{◌≡◌, ◌-◌, drop}
-use Rattle.cmd_explain.specs.LineNotes.{has_decimal_comma}
+use Rattle.cmd_explain.proofs.Terms.{◌≡◌, ◌-◌, drop, has_decimal_comma}
 use Rattle.cmd_explain.proofs.line_notes.has_decimal_comma.Given as goal
 
 abbrev pub invariant-loop-end : goal.invariant-loop-end

@@ -1,5 +1,4 @@
-use Rattle.std.proofs.Common.{◌∙◌, ◌++◌, List, ℕ, ap, append_assoc, codes}
-use Rattle.cmd_explain.specs.Decimals.{decimal_text}
+use Rattle.cmd_explain.proofs.Terms.{◌∙◌, ◌++◌, List, ℕ, ap, append_assoc, codes, decimal_text}
 use Rattle.cmd_explain.proofs.line_notes.push_unfollowed.Goals as goal
 
 pub returns : goal.returns

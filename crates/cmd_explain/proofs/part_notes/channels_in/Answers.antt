@@ -1,8 +1,5 @@
-use Rattle.std.proofs.Common.{◌≡◌, ◌==◌, arith, subst}
-use Rattle.std.specs.Prelude.{IfOk}
-use Rattle.std.specs.List.{list_any}
-use Rattle.cmd_explain.specs.CueParts.{channels_in}
-use Rattle.cmd_explain.specs.ShowNotes.{is_marked}
+use Rattle.cmd_explain.proofs.Terms.{◌≡◌, ◌==◌, arith, subst, IfOk, list_any, channels_in}
+use Rattle.cmd_explain.proofs.Terms.{is_marked}
 use Rattle.cmd_explain.proofs.PartLists.{same_below}
 use Rattle.cmd_explain.proofs.part_notes.channels_in.Goals as goal
 

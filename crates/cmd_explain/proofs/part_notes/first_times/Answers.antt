@@ -1,5 +1,4 @@
-use Rattle.std.proofs.Common.{◌∙◌, ◌++◌, ◌∷◌, ◌+◌, sym, ap, drop}
-use Rattle.cmd_explain.specs.CueParts.{first_times, part_of}
+use Rattle.cmd_explain.proofs.Terms.{◌∙◌, ◌++◌, ◌∷◌, ◌+◌, sym, ap, drop, first_times, part_of}
 use Rattle.cmd_explain.proofs.PartLists.{first_of, of_cue}
 use Rattle.cmd_explain.proofs.part_notes.first_times.Goals as goal
 

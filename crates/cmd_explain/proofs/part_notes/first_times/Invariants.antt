@@ -1,6 +1,4 @@
-use Rattle.std.proofs.Common.{◌≡◌, ◌==◌, [], map, take}
-use Rattle.std.specs.Prelude.{filter}
-use Rattle.cmd_explain.specs.CueParts.{part_of}
+use Rattle.cmd_explain.proofs.Terms.{◌≡◌, ◌==◌, [], map, take, filter, part_of}
 use Rattle.cmd_explain.proofs.part_notes.first_times.Given as goal
 
 -- none of those before is of the cue

@@ -1,9 +1,6 @@
-use Rattle.std.proofs.Common.{◌≡◌, ◌∙◌, ◌∷◌, ◌+◌, ◌||◌, ℕ, true, Option, Some, None, Vec, Global}
-use Rattle.std.proofs.Common.{drop, take, refl, sym, ap}
-use Rattle.std.specs.Prelude.{is_some, option_map}
-use Rattle.std.specs.List.{list_any}
-use Rattle.std.proofs.lemmas.List.Folds.{list_any-append}
-use Rattle.cmd_explain.specs.CueParts.{CuePart, part_of}
+use Rattle.cmd_explain.proofs.Terms.{◌≡◌, ◌∙◌, ◌∷◌, ◌+◌, ◌||◌, ℕ, true, Option, Some, None, Vec}
+use Rattle.cmd_explain.proofs.Terms.{Global, drop, take, refl, sym, ap, is_some, option_map}
+use Rattle.cmd_explain.proofs.Terms.{list_any, list_any-append, CuePart, part_of}
 use Rattle.cmd_explain.proofs.PartLists.{first_of, of_cue}
 use Rattle.cmd_explain.proofs.part_notes.has_named_part.Goals as goal
 

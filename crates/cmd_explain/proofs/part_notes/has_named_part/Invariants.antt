@@ -1,7 +1,5 @@
-use Rattle.std.proofs.Common.{◌≡◌, ◌==◌, false, map, take}
-use Rattle.std.specs.Prelude.{filter, is_some}
-use Rattle.std.specs.List.{list_any}
-use Rattle.cmd_explain.specs.CueParts.{part_of}
+use Rattle.cmd_explain.proofs.Terms.{◌≡◌, ◌==◌, false, map, take, filter, is_some, list_any}
+use Rattle.cmd_explain.proofs.Terms.{part_of}
 use Rattle.cmd_explain.proofs.part_notes.has_named_part.Given as goal
 
 -- none of those before has a name

@@ -1,6 +1,4 @@
-use Rattle.std.proofs.Common.{◌≡◌, ◌==◌, map, take}
-use Rattle.std.specs.Prelude.{filter}
-use Rattle.cmd_explain.specs.CueParts.{last_times, part_of}
+use Rattle.cmd_explain.proofs.Terms.{◌≡◌, ◌==◌, map, take, filter, last_times, part_of}
 use Rattle.cmd_explain.proofs.part_notes.last_times.Given as goal
 
 abbrev pub invariant-loop-part : goal.invariant-loop-part

@@ -1,6 +1,4 @@
-use Rattle.std.proofs.Common.{◌≡◌, ◌≤◌, ◌==◌, ℕ, take}
-use Rattle.std.specs.List.{list_any}
-use Rattle.cmd_explain.specs.ShowNotes.{is_marked}
+use Rattle.cmd_explain.proofs.Terms.{◌≡◌, ◌≤◌, ◌==◌, ℕ, take, list_any, is_marked}
 use Rattle.cmd_explain.proofs.part_notes.marked_channels.Given as goal
 
 abbrev pub invariant-loop-channel : goal.invariant-loop-channel

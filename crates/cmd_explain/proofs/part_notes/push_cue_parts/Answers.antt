@@ -1,11 +1,7 @@
-use Rattle.std.proofs.Common.{◌≡◌, ◌∙◌, ◌++◌, ℕ, Bool, true, cond, List, [], flat_map, sym, ap}
-use Rattle.std.proofs.Common.{rules}
-use Rattle.std.specs.Prelude.{is_some}
-use Rattle.std.specs.List.{list_any}
-use Rattle.std.proofs.lemmas.List.{take_all}
-use Rattle.cmd_explain.specs.CueParts.{CuePart, first_times, last_times, part_of, part_note}
-use Rattle.cmd_explain.specs.CueParts.{cue_part_notes, times_or}
-use Rattle.cmd_explain.specs.declared.cue_parts.Times.{Times}
+use Rattle.cmd_explain.proofs.Terms.{◌≡◌, ◌∙◌, ◌++◌, ℕ, Bool, true, cond, List, [], flat_map, sym}
+use Rattle.cmd_explain.proofs.Terms.{ap, rules, is_some, list_any, take_all, CuePart, first_times}
+use Rattle.cmd_explain.proofs.Terms.{last_times, part_of, part_note, cue_part_notes, times_or}
+use Rattle.cmd_explain.proofs.Terms.{Times}
 use Rattle.cmd_explain.proofs.PartLists.{of_cue, tell_more, tell_same}
 use Rattle.cmd_explain.proofs.part_notes.push_cue_parts.Goals as goal
 use Rattle.cmd_explain.proofs.part_notes.push_cue_parts.Goals.{then-part-cue+in_ok-push_part}

@@ -1,6 +1,5 @@
-use Rattle.std.proofs.Common.{◌≡◌, ◌++◌, ◌==◌, flat_map, map, take}
-use Rattle.std.specs.Prelude.{filter}
-use Rattle.cmd_explain.specs.CueParts.{part_of, part_note, times_or}
+use Rattle.cmd_explain.proofs.Terms.{◌≡◌, ◌++◌, ◌==◌, flat_map, map, take, filter, part_of}
+use Rattle.cmd_explain.proofs.Terms.{part_note, times_or}
 use Rattle.cmd_explain.proofs.part_notes.push_cue_parts.Given as goal
 
 abbrev pub invariant-loop-part : goal.invariant-loop-part

@@ -1,5 +1,4 @@
-use Rattle.std.proofs.Common.{◌≡◌, ◌++◌, map, take}
-use Rattle.cmd_explain.specs.CueParts.{notes_on_cues, part_of}
+use Rattle.cmd_explain.proofs.Terms.{◌≡◌, ◌++◌, map, take, notes_on_cues, part_of}
 use Rattle.cmd_explain.proofs.part_notes.push_part_notes.Given as goal
 
 abbrev pub invariant-loop-cue : goal.invariant-loop-cue

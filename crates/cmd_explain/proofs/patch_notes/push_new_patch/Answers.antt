@@ -1,5 +1,5 @@
-use Rattle.std.proofs.Common.{◌∙◌, ◌++◌, List, ℕ, ap}
-use Rattle.std.specs.Prelude.{codes, decimal}
+use Rattle.cmd_explain.proofs.Terms.{◌∙◌, ◌++◌, List, ℕ, ap, decimal}
+use Rattle.std.specs.Prelude.{codes}
 use Rattle.cmd_explain.proofs.Pieces.{joins}
 use Rattle.cmd_explain.proofs.patch_notes.push_new_patch.Goals as goal
 

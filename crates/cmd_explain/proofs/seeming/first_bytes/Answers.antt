@@ -1,6 +1,4 @@
-use Rattle.std.proofs.Common.{◌∙◌, ap, length, take}
-use Rattle.std.proofs.lemmas.List.{take_min}
-use Rattle.std.proofs.Math.Nat.{min_comm}
+use Rattle.cmd_explain.proofs.Terms.{◌∙◌, ap, length, take, take_min, min_comm}
 use Rattle.cmd_explain.proofs.seeming.first_bytes.Goals as goal
 
 pub returns : goal.returns

@@ -1,8 +1,6 @@
-use Rattle.std.proofs.Common.{◌∙◌, ◌∷◌, ◌++◌, [], ℕ, List, map, refl, ap, sym, arith}
-use Rattle.std.proofs.Common.{append_assoc, length-append}
+use Rattle.cmd_explain.proofs.Terms.{◌∙◌, ◌∷◌, ◌++◌, [], ℕ, List, map, refl, ap, sym, arith}
+use Rattle.cmd_explain.proofs.Terms.{append_assoc, length-append, map-append, CueData}
 use Rattle.std.specs.FinMap as maps
-use Rattle.std.proofs.lemmas.List.{map-append}
-use Rattle.show.specs.declared.cue.CueData.{CueData}
 use Rattle.cmd_explain.proofs.Ascending.{all_done, first_above_0, next_cue, none_next}
 use Rattle.cmd_explain.proofs.show_notes.cue_numbers.Goals as goal
 

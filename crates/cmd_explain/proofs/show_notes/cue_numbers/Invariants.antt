@@ -1,6 +1,5 @@
-use Rattle.std.proofs.Common.{◌≡◌, ℕ, ◌++◌, List, length, map}
+use Rattle.cmd_explain.proofs.Terms.{◌≡◌, ℕ, ◌++◌, List, length, map, CueData}
 use Rattle.std.specs.FinMap as maps
-use Rattle.show.specs.declared.cue.CueData.{CueData}
 use Rattle.cmd_explain.proofs.Ascending.{first_key}
 use Rattle.cmd_explain.proofs.show_notes.cue_numbers.Given as goal
 

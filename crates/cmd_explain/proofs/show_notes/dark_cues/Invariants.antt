@@ -1,5 +1,4 @@
-use Rattle.std.proofs.Common.{◌≡◌, take}
-use Rattle.cmd_explain.specs.ShowNotes.{dark_cues, is_marked}
+use Rattle.cmd_explain.proofs.Terms.{◌≡◌, take, dark_cues, is_marked}
 use Rattle.cmd_explain.proofs.show_notes.dark_cues.Given as goal
 
 abbrev pub invariant-loop-n : goal.invariant-loop-n

@@ -1,5 +1,4 @@
-use Rattle.std.proofs.Common.{◌≡◌, ◌++◌, codes, flat_map, take}
-use Rattle.std.specs.Prelude.{decimal}
+use Rattle.cmd_explain.proofs.Terms.{◌≡◌, ◌++◌, codes, flat_map, take, decimal}
 use Rattle.cmd_explain.proofs.show_notes.push_channel_list.Given as goal
 
 abbrev pub invariant-loop-channel : goal.invariant-loop-channel

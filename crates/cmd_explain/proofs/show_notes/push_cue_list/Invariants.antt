@@ -1,5 +1,4 @@
-use Rattle.std.proofs.Common.{◌≡◌, ◌++◌, codes, flat_map, take}
-use Rattle.cmd_explain.specs.Decimals.{decimal_text}
+use Rattle.cmd_explain.proofs.Terms.{◌≡◌, ◌++◌, codes, flat_map, take, decimal_text}
 use Rattle.cmd_explain.proofs.show_notes.push_cue_list.Given as goal
 
 abbrev pub invariant-loop-n : goal.invariant-loop-n

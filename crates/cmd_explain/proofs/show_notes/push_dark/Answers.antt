@@ -1,10 +1,8 @@
-use Rattle.std.proofs.Common.{◌≡◌, ◌∙◌, ◌++◌, List, ℕ, OnOk, ap, subst, append_assoc}
-use Rattle.std.proofs.Math.Path.{fun_ext}
+use Rattle.cmd_explain.proofs.Terms.{◌≡◌, ◌∙◌, ◌++◌, List, ℕ, OnOk, ap, subst, append_assoc}
+use Rattle.cmd_explain.proofs.Terms.{fun_ext, decimal, decimal_text, dark_channels, dark_cues}
+use Rattle.cmd_explain.proofs.Terms.{dark_notes, is_listed, is_marked, is_patched, list_note}
 use Rattle.std.specs.FinMap as maps
-use Rattle.std.specs.Prelude.{codes, decimal}
-use Rattle.cmd_explain.specs.Decimals.{decimal_text}
-use Rattle.cmd_explain.specs.ShowNotes.{dark_channels, dark_cues, dark_notes, is_listed}
-use Rattle.cmd_explain.specs.ShowNotes.{is_marked, is_patched, list_note}
+use Rattle.std.specs.Prelude.{codes}
 use Rattle.cmd_explain.proofs.show_notes.push_dark.Goals as goal
 
 pub returns : goal.returns

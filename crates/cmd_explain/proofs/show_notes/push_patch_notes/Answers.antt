@@ -1,9 +1,7 @@
-use Rattle.std.proofs.Common.{◌≡◌, ◌++◌, OnOk, true, false, cond, ap, sym, subst, length, arith}
-use Rattle.std.specs.Prelude.{nat_lt}
+use Rattle.cmd_explain.proofs.Terms.{◌≡◌, ◌++◌, OnOk, true, false, cond, ap, sym, subst, length}
+use Rattle.cmd_explain.proofs.Terms.{arith, nat_lt, nat_tests, Tables, dark_notes, no_patch_note}
+use Rattle.cmd_explain.proofs.Terms.{patch_notes}
 use Rattle.std.specs.FinMap as maps
-use Rattle.std.proofs.lemmas.Bool.Decides.{nat_tests}
-use Rattle.show.specs.Tables.{Tables}
-use Rattle.cmd_explain.specs.ShowNotes.{dark_notes, no_patch_note, patch_notes}
 use Rattle.cmd_explain.proofs.show_notes.push_patch_notes.Goals as goal
 
 some_patch : (show : Tables) → nat_lt 0 (length (maps.entries show.patch)) ≡ true

@@ -1,8 +1,7 @@
-use Rattle.std.proofs.Common.{◌≡◌, ◌∙◌, ◌++◌, List, ℕ, None, ap, append_assoc}
+use Rattle.cmd_explain.proofs.Terms.{◌≡◌, ◌∙◌, ◌++◌, List, ℕ, None, ap, append_assoc, decimal_text}
+use Rattle.cmd_explain.proofs.Terms.{list_note, patch_notes, same_cues, show_notes}
 use Rattle.std.specs.FinMap as maps
 use Rattle.std.specs.Prelude.{codes}
-use Rattle.cmd_explain.specs.Decimals.{decimal_text}
-use Rattle.cmd_explain.specs.ShowNotes.{list_note, patch_notes, same_cues, show_notes}
 use Rattle.cmd_explain.proofs.show_notes.push_show_notes.Goals as goal
 
 pub returns : goal.returns

@@ -1,5 +1,4 @@
-use Rattle.std.proofs.Common.{◌≡◌, ◌++◌, None, drop}
-use Rattle.cmd_explain.specs.ShowNotes.{same_cues}
+use Rattle.cmd_explain.proofs.Terms.{◌≡◌, ◌++◌, None, drop, same_cues}
 use Rattle.cmd_explain.proofs.show_notes.same_cues.Given as goal
 
 -- all are those that were found, and those among the cues that are left

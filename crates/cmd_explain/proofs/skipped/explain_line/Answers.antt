@@ -1,10 +1,7 @@
-use Rattle.std.proofs.Common.{◌≡◌, ◌∙◌, ◌++◌, ◌+◌, List, ℕ, true, false, length, Some, sym, ap}
-use Rattle.std.proofs.lemmas.List.{append-nil}
-use Rattle.ascii_text.specs.Text.{words_of}
-use Rattle.show_line.specs.Said.{desk_limits, line_reading}
-use Rattle.cmd_explain.specs.Headings.{owner_of, heading_below}
-use Rattle.cmd_explain.specs.Reasons.{reason_of}
-use Rattle.cmd_explain.specs.Skipped.{skipped_line, skipped_line_below, words_in}
+use Rattle.cmd_explain.proofs.Terms.{◌≡◌, ◌∙◌, ◌++◌, ◌+◌, List, ℕ, true, false, length, Some, sym}
+use Rattle.cmd_explain.proofs.Terms.{ap, append-nil, words_of, desk_limits, line_reading, owner_of}
+use Rattle.cmd_explain.proofs.Terms.{heading_below, reason_of, skipped_line, skipped_line_below}
+use Rattle.cmd_explain.proofs.Terms.{words_in}
 use Rattle.cmd_explain.proofs.Lines.{skipped_line_here}
 use Rattle.cmd_explain.proofs.skipped.explain_line.Goals as goal
 use Rattle.cmd_explain.proofs.skipped.explain_line.Goals.{After-may_own, else-is_skipped}

@@ -1,5 +1,4 @@
-use Rattle.std.proofs.Common.{◌≡◌, ◌++◌, map, take}
-use Rattle.cmd_explain.specs.Skipped.{display_byte}
+use Rattle.cmd_explain.proofs.Terms.{◌≡◌, ◌++◌, map, take, display_byte}
 use Rattle.cmd_explain.proofs.skipped.push_display_text.Given as goal
 
 abbrev pub invariant-loop-byte : goal.invariant-loop-byte

@@ -1,7 +1,5 @@
-use Rattle.std.proofs.Common.{◌≡◌, ◌∙◌, ◌+◌, ◌∷◌, ◌++◌, length, sym, ap, arith}
-use mathlib.Core.List.{reverse_aux}
-use Rattle.ascii_text.specs.Text.{numbered_from}
-use Rattle.cmd_explain.specs.Skipped.{skipped_line_below}
+use Rattle.cmd_explain.proofs.Terms.{◌≡◌, ◌∙◌, ◌+◌, ◌∷◌, ◌++◌, length, sym, ap, arith, reverse_aux}
+use Rattle.cmd_explain.proofs.Terms.{numbered_from, skipped_line_below}
 use Rattle.cmd_explain.proofs.Lines.{all_read, next_numbered, no_more}
 use Rattle.cmd_explain.proofs.skipped.skipped_lines.Goals as goal
 

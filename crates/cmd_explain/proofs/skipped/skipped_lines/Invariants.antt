@@ -1,5 +1,4 @@
-use Rattle.std.proofs.Common.{ℕ, List}
-use Rattle.ascii_text.specs.LinesLeft.{lines_left}
+use Rattle.cmd_explain.proofs.Terms.{ℕ, List, lines_left}
 use Rattle.cmd_explain.proofs.Lines.{StandsBehind}
 use Rattle.cmd_explain.proofs.skipped.skipped_lines.Given as goal
 

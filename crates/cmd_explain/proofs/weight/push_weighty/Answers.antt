@@ -1,8 +1,6 @@
-use Rattle.std.proofs.Common.{◌∙◌, ◌++◌, ap}
-use Rattle.std.proofs.Common.{◌≡◌, map, reverse, sym}
-use Rattle.std.proofs.lemmas.List.{reverse-reverse}
-use Rattle.cmd_explain.specs.CueParts.{notes_on_cues, part_notes, part_of, parts_below}
-use Rattle.cmd_explain.specs.NotesOf.{statement_notes}
+use Rattle.cmd_explain.proofs.Terms.{◌∙◌, ◌++◌, ap, ◌≡◌, map, reverse, sym, reverse-reverse}
+use Rattle.cmd_explain.proofs.Terms.{notes_on_cues, part_notes, part_of, parts_below}
+use Rattle.cmd_explain.proofs.Terms.{statement_notes}
 use Rattle.cmd_explain.proofs.Pieces.{joins}
 use Rattle.cmd_explain.proofs.weight.push_weighty.Goals as goal
 

@@ -1,8 +1,5 @@
-use Rattle.std.proofs.Common.{◌≡◌, ◌∙◌, ◌++◌, List, ℕ, reverse, take, ap, rules}
-use Rattle.ascii_text.specs.Text.{lines_of}
-use Rattle.cmd_explain.specs.Encoding.{encoding_notes}
-use Rattle.cmd_explain.specs.NotesOf.{weighty_line_notes}
-use Rattle.cmd_explain.specs.Weights.{line_count}
+use Rattle.cmd_explain.proofs.Terms.{◌≡◌, ◌∙◌, ◌++◌, List, ℕ, reverse, take, ap, rules, lines_of}
+use Rattle.cmd_explain.proofs.Terms.{encoding_notes, weighty_line_notes, line_count}
 use Rattle.cmd_explain.proofs.weight.weigh.Goals as goal
 
 pub returns : goal.returns

@@ -1,6 +1,4 @@
-use Rattle.std.proofs.Common.{◌≡◌, take, option_map}
-use Rattle.cmd_cues.specs.declared.label_line.LabelKind.TheVariants.{Text, Comment}
-use Rattle.cmd_cues.specs.LabelLines.{last_label_by}
+use Rattle.cmd_cues.proofs.Terms.{◌≡◌, take, option_map, Text, Comment, last_label_by}
 use Rattle.cmd_cues.proofs.labels.Labels.candidates.Given as goal
 
 abbrev pub invariant-loop-line : goal.invariant-loop-line

@@ -1,7 +1,5 @@
-use Rattle.std.proofs.Common.{◌≡◌, ◌∙◌, ◌+◌, ◌∷◌, length, sym, ap, arith}
-use mathlib.Core.List.{reverse_aux}
-use Rattle.ascii_text.specs.Text.{numbered_from}
-use Rattle.cmd_explain.proofs.Lines.{next_numbered}
+use Rattle.cmd_cues.proofs.Terms.{◌≡◌, ◌∙◌, ◌+◌, ◌∷◌, length, sym, ap, arith, reverse_aux}
+use Rattle.cmd_cues.proofs.Terms.{numbered_from, next_numbered}
 use Rattle.cmd_cues.proofs.Labelling.{all_read, no_more}
 use Rattle.cmd_cues.proofs.labels.Labels.read.Goals as goal
 

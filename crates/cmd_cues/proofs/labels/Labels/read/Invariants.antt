@@ -1,5 +1,4 @@
-use Rattle.std.proofs.Common.{ℕ, List}
-use Rattle.ascii_text.specs.LinesLeft.{lines_left}
+use Rattle.cmd_cues.proofs.Terms.{ℕ, List, lines_left}
 use Rattle.cmd_cues.proofs.Labelling.{StandsBehind}
 use Rattle.cmd_cues.proofs.labels.Labels.read.Given as goal
 

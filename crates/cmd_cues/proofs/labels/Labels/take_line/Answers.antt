@@ -1,7 +1,4 @@
-use Rattle.std.proofs.Common.{◌∷◌, subst, sym}
-use Rattle.ascii_text.specs.Text.{words_of}
-use Rattle.cmd_explain.proofs.Lines.{reading_is}
-use Rattle.cmd_cues.specs.LabelLines.{AreOf}
+use Rattle.cmd_cues.proofs.Terms.{◌∷◌, subst, sym, words_of, reading_is, AreOf}
 use Rattle.cmd_cues.proofs.Labelling.{next_labels}
 use Rattle.cmd_cues.proofs.labels.Labels.take_line.Goals as goal
 

@@ -1,6 +1,5 @@
-use Rattle.std.proofs.Common.{◌≡◌, ◌∙◌, ◌+◌, [], ◌∷◌, length, refl, sym, ap, arith, rules}
-use mathlib.Core.List.{reverse_aux}
-use Rattle.ascii_text.specs.Text.{lines_of, numbered_from}
+use Rattle.cmd_explain.proofs.Terms.{◌≡◌, ◌∙◌, ◌+◌, [], ◌∷◌, length, refl, sym, ap, arith, rules}
+use Rattle.cmd_explain.proofs.Terms.{reverse_aux, lines_of, numbered_from}
 use Rattle.cmd_explain.proofs.Lines.{next_numbered}
 use Rattle.cmd_explain.proofs.NoteLines.{notes_of_all, none_more}
 use Rattle.cmd_explain.proofs.note_lines.LineNotes.read.Goals as goal

@@ -1,9 +1,6 @@
-use Rattle.std.proofs.Common.{◌≡◌, ◌∙◌, ◌∷◌, Some, ap, sym, arith}
-use Rattle.ascii_text.specs.Text.{words_of}
-use Rattle.show_line.specs.Said.{desk_limits, line_reading}
-use Rattle.cmd_explain.specs.Headings.{heading_below, owner_of}
-use Rattle.cmd_explain.specs.NotesOf.{unknown_count, unknown_in}
-use Rattle.cmd_explain.specs.Skipped.{words_in}
+use Rattle.cmd_explain.proofs.Terms.{◌≡◌, ◌∙◌, ◌∷◌, Some, ap, sym, arith, words_of, desk_limits}
+use Rattle.cmd_explain.proofs.Terms.{line_reading, heading_below, owner_of, unknown_count}
+use Rattle.cmd_explain.proofs.Terms.{unknown_in, words_in}
 use Rattle.cmd_explain.proofs.Lines.{keyword_is, statement_is}
 use Rattle.cmd_explain.proofs.NoteLines.{few_unknown, has_words, heading_more, notes_more}
 use Rattle.cmd_explain.proofs.NoteLines.{unknown_is}

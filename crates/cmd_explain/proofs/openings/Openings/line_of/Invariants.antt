@@ -1,5 +1,4 @@
-use Rattle.std.proofs.Common.{◌≡◌, drop}
-use Rattle.cmd_explain.specs.LineNotes.{opening_line}
+use Rattle.cmd_explain.proofs.Terms.{◌≡◌, drop, opening_line}
 use Rattle.cmd_explain.proofs.openings.Openings.line_of.Given as goal
 
 -- the openings that are left have what all openings have of a record

@@ -1,6 +1,5 @@
-use Rattle.std.proofs.Common.{◌≡◌, ◌∷◌, ◌++◌, List, ℕ, ap, ◌∙◌, append_assoc}
-use Rattle.cmd_explain.specs.PatchNotes.{sheet_after_triples, sheet_of, triple_note}
-use Rattle.cmd_explain.specs.PatchNotes.{triple_notes}
+use Rattle.cmd_explain.proofs.Terms.{◌≡◌, ◌∷◌, ◌++◌, List, ℕ, ap, ◌∙◌, append_assoc}
+use Rattle.cmd_explain.proofs.Terms.{sheet_after_triples, sheet_of, triple_note, triple_notes}
 use Rattle.cmd_explain.proofs.patch_notes.PatchNotes.take_triples.Goals as goal
 
 pub loop-triple-preserved : goal.loop-triple-preserved

@@ -1,5 +1,4 @@
-use Rattle.std.proofs.Common.{◌≡◌, ◌++◌}
-use Rattle.cmd_explain.specs.PatchNotes.{sheet_after_triples, sheet_of, triple_notes}
+use Rattle.cmd_explain.proofs.Terms.{◌≡◌, ◌++◌, sheet_after_triples, sheet_of, triple_notes}
 use Rattle.cmd_explain.proofs.patch_notes.PatchNotes.take_triples.Given as goal
 
 -- the triples that are left make of what there is what all make of what was there
