@@ -52,7 +52,8 @@ pub use Rattle.cmd_explain.specs.declared.openings.Openings.{Openings}
 pub use Rattle.cmd_explain.specs.CueParts.{CuePart, part_of_line, newest_first, with_part}
 pub use Rattle.cmd_explain.specs.CueParts.{parts_below, parts_after, change_last, part_of}
 pub use Rattle.cmd_explain.specs.CueParts.{part_with_pairs, new_part, part_with_down, part_with_up}
-pub use Rattle.cmd_explain.specs.CueParts.{channels_in, first_times, last_times, part_note}
+pub use Rattle.cmd_explain.specs.CueParts.{first_times, last_times, part_note}
+unfoldable pub use Rattle.cmd_explain.specs.CueParts.{channels_in}
 pub use Rattle.cmd_explain.specs.CueParts.{cue_part_notes, times_or, notes_on_cues, part_notes}
 pub use Rattle.cmd_explain.specs.NotesOf.{AreMore, AreNotesOf, AreOpeningsOf, IsTaken}
 pub use Rattle.cmd_explain.specs.NotesOf.{unknown_count, unknown_in, line_notes, weighty_line_notes}
@@ -73,11 +74,15 @@ pub use Rattle.std.proofs.lemmas.Bool.{eq-eqb, ne_eqb}
 pub use Rattle.show_reader.proofs.OneShow.{of_its_show}
 pub use Rattle.show_reader.specs.Reading.{lines_read}
 pub use Rattle.show_reader.specs.Shows.{IsShowOf}
-pub use Rattle.cmd_explain.specs.Encoding.{encoding_notes, cr_text, has_cr_alone, has_mark}
+pub use Rattle.cmd_explain.specs.Encoding.{cr_text, has_cr_alone, has_mark}
+unfoldable pub use Rattle.cmd_explain.specs.Encoding.{encoding_notes}
 pub use Rattle.cmd_explain.specs.Encoding.{is_utf_16, mark_text, note_if, utf_16_text}
-pub use Rattle.cmd_explain.specs.ShowNotes.{show_notes, is_listed, is_marked, dark_cues}
-pub use Rattle.cmd_explain.specs.ShowNotes.{dark_channels, dark_notes, is_patched, list_note}
-pub use Rattle.cmd_explain.specs.ShowNotes.{no_patch_note, patch_notes, same_cues}
+pub use Rattle.cmd_explain.specs.ShowNotes.{is_listed, is_marked, dark_cues}
+unfoldable pub use Rattle.cmd_explain.specs.ShowNotes.{show_notes}
+pub use Rattle.cmd_explain.specs.ShowNotes.{dark_channels, is_patched, list_note}
+unfoldable pub use Rattle.cmd_explain.specs.ShowNotes.{dark_notes}
+pub use Rattle.cmd_explain.specs.ShowNotes.{no_patch_note, same_cues}
+unfoldable pub use Rattle.cmd_explain.specs.ShowNotes.{patch_notes}
 pub use Rattle.show.proofs.Ranges.{entries_from_keys}
 pub use Rattle.cmd_explain.specs.Decimals.{decimal_text}
 pub use Rattle.ascii_text.specs.LinesLeft.{lines_left}

@@ -5,7 +5,7 @@ pub use Rattle.std.proofs.Common.{length, take, ◌⊎◌, inr, ◌+◌, append_
 pub use Rattle.std.proofs.Common.{rules, drop, take-append-drop, inl}
 pub use Rattle.std.specs.Prelude.{IsTrue, IsFalse, Option, count_by, is_none, is_some}
 pub use Rattle.std.specs.Prelude.{if◌then◌else◌, ◌==◌}
-pub use Rattle.patch.specs.Frame.{is_base}
+unfoldable pub use Rattle.patch.specs.Frame.{is_base}
 pub use Rattle.patch.specs.declared.fault.RigFault.{RigFault}
 pub use Rattle.patch.specs.declared.fault.RigFault.TheVariants.{Universe}
 pub use Rattle.show.specs.Tables.{Tables}

@@ -14,22 +14,27 @@ pub use Rattle.show.specs.Numbers.{is_channel, AreLevels}
 pub use Rattle.show.specs.Readers.{slot_of, has_dimmer_in, patch_ordinals, IsInRange}
 pub use Rattle.show.specs.Tables.{PatchMap, Tables, LevelMap}
 pub use Rattle.show.proofs.Ranges.{value_in}
-pub use Rattle.playback.specs.Played.{playback_level, Move, with_due, moves_by}
+pub use Rattle.playback.specs.Played.{playback_level, Move, moves_by}
+unfoldable pub use Rattle.playback.specs.Played.{with_due}
 pub use Rattle.masters.specs.Merged.{greatest_in, merged_after}
 pub use Rattle.masters.specs.Settings.{sub_after, group_after, grand_after, Setting}
-pub use Rattle.patch.specs.Frame.{listed_level, dimmer_slot, frame_of, AreDrawn, is_base}
-pub use Rattle.patch.specs.Frame.{is_universe, frames_in}
+pub use Rattle.patch.specs.Frame.{listed_level, dimmer_slot, frame_of, AreDrawn}
+unfoldable pub use Rattle.patch.specs.Frame.{is_base}
+pub use Rattle.patch.specs.Frame.{is_universe}
+unfoldable pub use Rattle.patch.specs.Frame.{frames_in}
 pub use Rattle.desk.specs.declared.command.Command.{Command}
 pub use Rattle.desk.specs.declared.command.Command.TheVariants.{Go, Back, Goto, GotoIn, Sub, Group}
 pub use Rattle.desk.specs.declared.command.Command.TheVariants.{Master, End}
 pub use Rattle.std.proofs.lemmas.Bool.{false≢true, cond_both}
 pub use Rattle.desk.specs.Stands.{keeps_floors, StandsFor}
-pub use Rattle.desk.specs.Meaning.{dark, channel_level, frame, latest_frame, universe_numbers}
+pub use Rattle.desk.specs.Meaning.{dark, channel_level, latest_frame}
+unfoldable pub use Rattle.desk.specs.Meaning.{frame, universe_numbers}
 pub use Rattle.playback.proofs.Due.{with_due-again, with_due-none}
 pub use Rattle.desk.specs.Played.{Act, order, tick, ticks_since_end, moves, settings, Call}
 pub use Rattle.std.proofs.lemmas.List.FromFn.{length-map-range_with_len, get_or-map-range_with_len}
 pub use Rattle.std.proofs.lemmas.List.FromFn.{length-range_with_len, get_or-range_with_len}
-pub use Rattle.fade.specs.Level.{Start, split_fade}
+pub use Rattle.fade.specs.Level.{Start}
+unfoldable pub use Rattle.fade.specs.Level.{split_fade}
 pub use Rattle.playback.specs.Playing.{PlaybackState}
 pub use Rattle.playback.proofs.Places.{none_made, is_by-before, move_to}
 pub use Rattle.desk.specs.DeskState.{DeskState}

@@ -26,7 +26,8 @@ pub use Rattle.std.specs.FinMap.Entries.{find-append}
 pub use Rattle.std.proofs.lemmas.Grind.{get_or-set_at}
 pub use Rattle.std.proofs.lemmas.List.FromFn.{length-map-range_with_len, get_or-map-range_with_len}
 pub use Rattle.std.specs.Simd.{first_chunks}
-pub use Rattle.patch.specs.Frame.{frames_in, dimmer_slot, frame_of, AreDrawn, listed_level}
+pub use Rattle.patch.specs.Frame.{dimmer_slot, frame_of, AreDrawn, listed_level}
+unfoldable pub use Rattle.patch.specs.Frame.{frames_in}
 pub use Rattle.std.proofs.lemmas.Bool.{cases_lt, cond_both, cases_eq, ltb-true, ltb-false}
 pub use Rattle.std.proofs.Math.Seq.{get_or-append_seam}
 pub use Rattle.std.proofs.lemmas.List.Sorted.{All-permutation, Contains-permutation}

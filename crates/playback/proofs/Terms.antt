@@ -7,7 +7,8 @@ pub use Rattle.std.specs.Prelude.{option_map, IfNone}
 pub use Rattle.std.proofs.lemmas.Bool.Decides.{nat_tests}
 pub use Rattle.show.specs.Tables.{Tables, CueMap, LevelMap}
 pub use Rattle.playback.specs.Placed.{count_above, IsPlaceAfter, cues_above}
-pub use Rattle.playback.specs.Played.{Move, next_move, with_follow_ons, with_due, current_after}
+pub use Rattle.playback.specs.Played.{Move, next_move, with_follow_ons, current_after}
+unfoldable pub use Rattle.playback.specs.Played.{with_due}
 pub use Rattle.playback.specs.Played.{goto_target, moves_by, start_of, cue_at, up_rate, down_rate}
 pub use Rattle.playback.specs.Played.{playback_level, playback_target, due_moment, is_by}
 pub use Rattle.playback.specs.Played.{back_target, go_target}

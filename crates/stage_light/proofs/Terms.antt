@@ -43,7 +43,8 @@ pub use Rattle.devices.specs.Send.{Send}
 pub use Rattle.desk.specs.declared.answer.Refused.{Refused}
 pub use Rattle.desk.specs.declared.command.Command.{Command}
 pub use Rattle.desk.specs.declared.command.Command.TheVariants.{End, Master}
-pub use Rattle.desk.specs.Meaning.{latest_frame, frame, universe_numbers, dark}
+pub use Rattle.desk.specs.Meaning.{latest_frame, dark}
+unfoldable pub use Rattle.desk.specs.Meaning.{frame, universe_numbers}
 pub use Rattle.desk.specs.Played.{Act, order, refusal, ticks_since_end}
 pub use Rattle.show.specs.Tables.{Tables, PatchMap}
 pub use Rattle.live_input.specs.Keys.{without_keys}
@@ -96,7 +97,7 @@ pub use Rattle.sacn_source.proofs.Streams.{HoldsFull}
 pub use Rattle.sacn_receiver.proofs.Members.{In, by_test, in_from_place, In_map, place_from_in}
 pub use Rattle.sacn_receiver.proofs.Members.{In_mapped, in_from_get_or, In_filter, In_filtered}
 pub use Rattle.console.specs.declared.reading.Reading.{Reading}
-pub use Rattle.rehearsal.specs.Datagrams.{packet_bytes}
+unfoldable pub use Rattle.rehearsal.specs.Datagrams.{packet_bytes}
 pub use Rattle.rehearsal.specs.Sends.{packet_run, sent_to}
 pub use Rattle.rehearsal.specs.World.{IsConsole, plays}
 pub use Rattle.rehearsal.proofs.Linked.{sent_due, sent_more, stream_ticked, numbered_at}
