@@ -37,7 +37,7 @@ pub use appended_lines::AppendedLines;
 pub use bounded_output::{BoundedOutput, Names};
 pub use card_sender::CardSender;
 pub use cards::{card_state, read_cards};
-pub use cid_lock::{CidLock, LockFault, PathText};
+pub use cid_lock::{CidLock, LockFault};
 pub use fault::DeviceFault;
 pub use host_name::machine_name;
 pub use input::SystemInput;
