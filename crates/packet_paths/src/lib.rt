@@ -1,0 +1,19 @@
+//! By which paths the packets of a night leave this machine: which one a packet has, where its
+//! route leads, how long a look at that counts, and who takes its packets first.
+//!
+//! What is known of the system is asked of a [`RouteSystem`], and the contracts say in what order.
+//!
+//! ```
+//! let mut path = Path::new(host, Some(0), true);
+//! path.look_before(&mut system, Some(source), false);
+//! let sending = sending_of(Some(path), Some(state), false);
+//! ```
+#![tactic(auto)]
+
+mod hosts;
+mod path;
+mod system;
+
+pub use hosts::{GROUPS, is_multicast, packet_place, path_place};
+pub use path::{Path, sending_of};
+pub use system::{Question, RouteSystem};
