@@ -1,5 +1,5 @@
 -- How the route to a host is looked for, and what is asked of the system then.
-use Rattle.std.specs.Prelude.{◌≡◌, ℕ, ◌-◌, Bool, true, false, ◌||◌, List, [], ◌∷◌, ◌++◌, bytes_eq}
+use Rattle.std.specs.Prelude.{◌≡◌, ℕ, ◌-◌, Bool, true, false, ◌||◌, List, [], ◌∷◌, bytes_eq}
 use Rattle.std.specs.Prelude.{nat_lt, Option, Some, None, option_map, if◌then◌else◌}
 use Rattle.std.specs.Option.{is_some}
 use Rattle.link_notices.specs.declared.path.CardAddress.{CardAddress}
@@ -52,17 +52,17 @@ abbrev pub with_route : Path → Option CardAddress → CardAddress → Bool →
 with_route path found source is_any_route =
     record path { route = found; state = path_state found source is_any_route }
 
--- a look before a packet: the time is asked for, and, unless the last look counts, the address that
--- the route gives, and its card
-pub record IsLookBefore (source : CardAddress) (before after : Path) (time : Option ℕ)
-    (questions : List Question) : Type 0 where
-  pub fresh : is_fresh before.look_time time ≡ true
-      → (after ≡ before) × (questions ≡ question.Time time ∷ [])
-  pub route : Option (List ℕ)
-  pub found : is_fresh before.look_time time ≡ false
-      → IsFound route source before.route after.route
-  pub path : is_fresh before.look_time time ≡ false
-      → after ≡ with_route (record before { look_time = time }) after.route source false
-  pub asked : is_fresh before.look_time time ≡ false
-      → questions ≡ question.Time time ∷ question.Source before.host route
-      ∷ card_questions before.host source before.route after.route
+-- a look before a packet, where the last look counts: only the time was asked for; and where it does
+-- not: then the address that the route gives, and its card
+abbrev pub IsLookAt : Bool → CardAddress → Path → Path → Option ℕ → List Question → Type 0
+IsLookAt true source before after time questions =
+    (after ≡ before) × (questions ≡ question.Time time ∷ [])
+IsLookAt false source before after time questions =
+    (route : Option (List ℕ)) × IsFound route source before.route after.route
+    × (after ≡ with_route (record before { look_time = time }) after.route source false)
+    × (questions ≡ question.Time time ∷ question.Source before.host route
+    ∷ card_questions before.host source before.route after.route)
+
+abbrev pub IsLookBefore : CardAddress → Path → Path → Option ℕ → List Question → Type 0
+IsLookBefore source before after time questions =
+    IsLookAt (is_fresh before.look_time time) source before after time questions

@@ -172,7 +172,7 @@ impl Path {
             ++ card_questions self.old.host source self.old.route self.new.route }
     {
         self.route = match route {
-            Some(address) => Some(self.card_of(system, source, address)),
+            Some(address) => Some(self.card_of(system, &source, address)),
             None => None,
         };
         self.state = PathState::of_route(self.route, source, is_any_route);
@@ -182,14 +182,14 @@ impl Path {
     fn card_of<S: RouteSystem>(
         &self,
         system: &mut S,
-        source: CardAddress,
+        source: &CardAddress,
         address: [u8; 4],
     ) -> CardAddress
         ensures told { S.tells system.new → S.tells system.old }
         ensures address { result.address ≡ address }
-        ensures known { IfSome (known_card address source self.now.route)
+        ensures known { IfSome (known_card address source.now self.now.route)
             (λ known. (result ≡ known) × (system.new ≡ system.old)) }
-        ensures asked { IfNone (known_card address source self.now.route)
+        ensures asked { IfNone (known_card address source.now self.now.route)
             (S.tells system.new → S.questions system.new ≡ S.questions system.old
             ++ question.Card address self.now.host result.card ∷ []) }
     {
@@ -218,12 +218,22 @@ impl Path {
             × (S.tells system.new
             → S.questions system.new ≡ S.questions system.old ++ questions)) }
     {
-        let Some(source) = source else {
-            return;
-        };
-        if is_any_route || is_multicast(self.host) {
-            return;
+        match source {
+            Some(source) if !is_any_route && !is_multicast(self.host) => {
+                self.look_now(system, source);
+            }
+            _ => {}
         }
+    }
+
+    // Looks for the route to the host, unless the last look counts still.
+    fn look_now<S: RouteSystem>(&mut self, system: &mut S, source: CardAddress)
+        ensures told { S.tells system.new → S.tells system.old }
+        ensures looks { (time : Option ℕ) × (questions : List QuestionOf)
+            × IsLookBefore source self.old self.new time questions
+            × (S.tells system.new
+            → S.questions system.new ≡ S.questions system.old ++ questions) }
+    {
         let now = system.time();
         if is_fresh(self.look_time, now) {
             return;
@@ -246,14 +256,14 @@ fn is_same_taker(left: Option<[u8; 4]>, right: Option<[u8; 4]>) -> bool
 
 fn known_card(
     address: [u8; 4],
-    source: CardAddress,
+    source: &CardAddress,
     last: Option<CardAddress>,
 ) -> Option<CardAddress>
-    ensures { result ≡ known_card address source last }
+    ensures { result ≡ known_card address source.now last }
 {
     let own = source.address;
     if own == address {
-        return Some(source);
+        return Some(*source);
     }
     let last = last?;
     let known = last.address;
