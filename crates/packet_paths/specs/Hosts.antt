@@ -50,3 +50,8 @@ host_path path = record { source = path.source; state = path.state; silence = pa
 abbrev pub state_of : Option Path → PathState
 state_of None = Nowhere
 state_of (Some path) = path.state
+
+-- no route leads to its host
+abbrev pub is_nowhere : PathState → Bool
+is_nowhere Nowhere = true
+is_nowhere state = false

@@ -1,7 +1,10 @@
 -- Who takes the packets of a path first.
 use Rattle.std.specs.Prelude.{ℕ, Bool, true, false, ◌||◌, not, List, [], ◌∷◌, bytes_eq, nat_lt}
+use Rattle.std.specs.Prelude.{◌==◌, codes, slice_index, unwrap_or}
 use Rattle.std.specs.Prelude.{Option, Some, None, if◌then◌else◌}
 use Rattle.std.specs.Option.{is_some}
+use Rattle.arrayvec.specs.declared.array_string.ArrayString.{ArrayString}
+use Rattle.network_tables.specs.declared.route.Route.{Route}
 use Rattle.network_tables.specs.Neighbors.{silence_toward}
 use Rattle.packet_paths.specs.declared.path.Path.{Path}
 use Rattle.packet_paths.specs.declared.system.Question.{Question}
@@ -36,3 +39,20 @@ abbrev pub taker_questions : Option (List ℕ) → Path → Option (List ℕ) �
 taker_questions None path taker = []
 taker_questions (Some address) path taker =
     if asks_taker path then question.Neighbor path.host address taker ∷ [] else []
+
+-- this machine takes packets itself that go to the address that they come from, or come from its
+-- own loop
+abbrev pub is_taken_here : List ℕ → List ℕ → Bool
+is_taken_here host address = bytes_eq address host || (slice_index address 0 == 127)
+
+-- else the gateway of the route takes them first, or the host itself where there is none
+abbrev pub first_taker : List ℕ → Option Route → Option (List ℕ)
+first_taker host None = None
+first_taker host (Some route) = Some (unwrap_or route.gateway host)
+
+-- the card that packets come from: that of their address, where it is known; else the one that the
+-- route leads by; else nobody knows
+abbrev pub card_from : Option (ArrayString 15) → Option Route → List ℕ
+card_from (Some card) route = card.bytes
+card_from None (Some route) = route.card.bytes
+card_from None None = codes "?"

@@ -3,8 +3,8 @@ ghost use Rattle.packet_paths.specs.Hosts.{is_group, is_multicast, packet_place,
 
 use crate::path::Path;
 
-/// The host that stands for the multicast groups of all universes.
-pub const GROUPS: [u8; 4] = [239, 255, 0, 0];
+// The host that stands for the multicast groups of all universes.
+const EACH_GROUP: [u8; 4] = [239, 255, 0, 0];
 
 /// Whether an address is that of a multicast group.
 pub fn is_multicast(host: [u8; 4]) -> bool
@@ -32,7 +32,7 @@ pub fn packet_place(paths: &[Path], host: [u8; 4]) -> Option<usize>
 {
     match path_place(paths, host) {
         Some(place) => Some(place),
-        None if is_group(host) => path_place(paths, GROUPS),
+        None if is_group(host) => path_place(paths, EACH_GROUP),
         None => None,
     }
 }

@@ -11,9 +11,14 @@
 #![tactic(auto)]
 
 mod hosts;
+pub mod memory;
 mod path;
+mod sockets;
 mod system;
+mod takers;
 
-pub use hosts::{GROUPS, is_multicast, packet_place, path_place};
+pub use hosts::{is_multicast, packet_place, path_place};
 pub use path::{Path, sending_of};
+pub use sockets::{is_tie_due, source_address};
 pub use system::{Question, RouteSystem};
+pub use takers::{card_from, first_taker, is_taken_here};

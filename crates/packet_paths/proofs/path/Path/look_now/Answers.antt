@@ -23,15 +23,15 @@ returns-clause-looks g c =
       time,
       question.Time time ∷ question.Source before.host route ∷ cards,
       looks _ c.args.source before after time route
-      (sym c.is_fresh.ensures ∙ c.if-is_fresh.false) c.look_for_card.ensures.found
-      c.look_for_card.ensures.path,
+          (sym c.is_fresh.ensures ∙ c.if-is_fresh.false) c.look_for_card.ensures.found
+          c.look_for_card.ensures.path,
       λ told.
-      let by_route = c.look_for_card.ensures.told told in
-      let by_time = c.source_to-route.ensures.told by_route in
-      c.look_for_card.ensures.questions told
-      ∙ ap (λ asked. asked ++ cards) (c.source_to-route.ensures.question by_route
-      ∙ ap (λ asked. asked ++ question.Source before.host route ∷ [])
-      (c.time-now.ensures.question by_time))
-      ∙ in_order (g.S.RouteSystem.questions c.args.system.now) (question.Time time)
-      (question.Source before.host route) cards,
+          let by_route = c.look_for_card.ensures.told told in
+          let by_time = c.source_to-route.ensures.told by_route in
+          c.look_for_card.ensures.questions told
+          ∙ ap (λ asked. asked ++ cards) (c.source_to-route.ensures.question by_route
+          ∙ ap (λ asked. asked ++ question.Source before.host route ∷ [])
+          (c.time-now.ensures.question by_time))
+          ∙ in_order (g.S.RouteSystem.questions c.args.system.now) (question.Time time)
+          (question.Source before.host route) cards,
     )

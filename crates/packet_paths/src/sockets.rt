@@ -1,0 +1,31 @@
+ghost use Rattle.std.specs.Prelude.{◌≡◌};
+ghost use Rattle.packet_paths.specs.Sockets.{is_tie_due, same_number, source_address};
+
+/// The address that packets to a host come from: that of the card that was named, if one was; else
+/// the one that the route to the host gives.
+pub fn source_address(named: Option<[u8; 4]>, route: Option<[u8; 4]>) -> Option<[u8; 4]>
+    ensures { result ≡ source_address named route }
+{
+    match named {
+        Some(address) => Some(address),
+        None => route,
+    }
+}
+
+/// Whether a socket is to be tied to a card anew, by the number that the system gives the card now,
+/// and that of the card that it is tied to; none where there is none.
+pub fn is_tie_due(card: Option<u32>, tied: Option<u32>, is_any_route: bool) -> bool
+    ensures { result ≡ is_tie_due card tied is_any_route }
+{
+    !is_any_route && !is_same_number(card, tied)
+}
+
+fn is_same_number(card: Option<u32>, tied: Option<u32>) -> bool
+    ensures { result ≡ same_number card tied }
+{
+    match (card, tied) {
+        (None, None) => true,
+        (Some(card), Some(tied)) => card == tied,
+        _ => false,
+    }
+}
