@@ -1,6 +1,6 @@
 -- How the route to a host is looked for, and what is asked of the system then.
 use Rattle.std.specs.Prelude.{◌≡◌, ℕ, ◌-◌, Bool, true, false, ◌||◌, List, [], ◌∷◌, bytes_eq}
-use Rattle.std.specs.Prelude.{nat_lt, Option, Some, None, option_map, if◌then◌else◌}
+use Rattle.std.specs.Prelude.{nat_lt, Option, Some, None, if◌then◌else◌}
 use Rattle.std.specs.Option.{is_some}
 use Rattle.link_notices.specs.declared.path.CardAddress.{CardAddress}
 use Rattle.link_notices.specs.Paths.{path_state}

@@ -1,4 +1,4 @@
-use Rattle.std.proofs.Common.{◌≡◌, ◌∙◌, ◌∷◌, ◌++◌, [], ap, sym}
+use Rattle.std.proofs.Common.{◌∙◌, ◌∷◌, ◌++◌, [], ap, sym}
 use Rattle.packet_paths.specs.Routes.{card_questions}
 use Rattle.packet_paths.specs.declared.system.Question.TheVariants as question
 use Rattle.packet_paths.proofs.BeforePackets.{counts, in_order, looks}
