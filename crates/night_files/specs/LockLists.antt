@@ -1,7 +1,7 @@
 -- The system's list of locks: whose lock a line is.
 use Rattle.std.specs.Prelude.{ℕ, ◌+◌, ◌*◌, ◌/◌, ◌%◌, Bool, false, ◌&&◌, List, ◌++◌, codes, decimal}
 use Rattle.std.specs.Prelude.{bytes_eq, nat_lt, slice_index_or, [], if◌then◌else◌}
-use Rattle.std.specs.Prelude.{Option, option_and_then}
+use Rattle.std.specs.Prelude.{Option, None, drop, option_and_then, take}
 use Rattle.std.specs.List.{find}
 use Rattle.std.specs.Fmt.{digits}
 use Rattle.ascii_text.specs.Forms.{number_of}
@@ -41,3 +41,8 @@ process_in line = number_of (word_at 4 line)
 -- the process that locked a file: that of the first line that is of its lock
 abbrev pub locking_process : List ℕ → List ℕ → Option ℕ
 locking_process node list = option_and_then process_in (find (is_lock_of node) (lines_of list))
+
+-- the descriptor that a name spells: the number behind `/dev/fd/`
+abbrev pub descriptor_in : List ℕ → Option ℕ
+descriptor_in name =
+    if bytes_eq (take 8 name) (codes "/dev/fd/") then number_of (drop 8 name) else None

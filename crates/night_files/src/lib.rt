@@ -13,7 +13,9 @@ mod lock_request;
 pub mod memory;
 mod record_use;
 
-pub use lock_list::{locking_process, node_text};
+pub use lock_list::{descriptor_in, locking_process, node_text};
 pub use lock_place::{PathText, lock_folder, lock_path, runtime_folder};
 pub use lock_request::{FileLock, LockRequest, LockStep, ask_for_lock};
-pub use record_use::{RecordRefusal, RecordUse, lock_to_open, lock_to_take_over};
+pub use record_use::{
+    FileAccess, RecordRefusal, RecordUse, is_unused, lock_to_open, lock_to_take_over,
+};

@@ -1,7 +1,7 @@
 ghost use Rattle.std.specs.Prelude.{◌≡◌, ◌++◌, ◌<◌, ◌^◌, IfOk, codes, decimal, drop, length};
 ghost use Rattle.std.specs.Prelude.{string_bytes};
 ghost use Rattle.ascii_text.specs.Text.{lines_of};
-ghost use Rattle.night_files.specs.LockLists.{hex_text, is_lock_of, locking_process};
+ghost use Rattle.night_files.specs.LockLists.{descriptor_in, hex_text, is_lock_of, locking_process};
 ghost use Rattle.night_files.specs.LockLists.{major_number, minor_number, node_text};
 ghost use Rattle.night_files.specs.LockLists.{process_in, word_at};
 
@@ -91,4 +91,20 @@ fn skip_word(words: &mut Words)
     ensures { words.new ≡ drop 1 words.old }
 {
     let _ = words.next();
+}
+
+/// The number of the descriptor that a name spells, as `/dev/fd/3`; there is none where it spells
+/// none.
+pub fn descriptor_in(name: &[u8]) -> Option<u32>
+    ensures { result ≡ descriptor_in name.now }
+{
+    if name.len() < 8 {
+        return None;
+    }
+    let (folder, number_text) = name.split_at(8);
+    if folder == b"/dev/fd/".as_slice() {
+        number(number_text)
+    } else {
+        None
+    }
 }

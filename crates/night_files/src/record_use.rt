@@ -1,5 +1,6 @@
 ghost use Rattle.std.specs.Prelude.{◌≡◌};
-ghost use Rattle.night_files.specs.RecordUses.{lock_to_open, lock_to_take_over, refusal_of};
+ghost use Rattle.night_files.specs.RecordUses.{access_to, is_unused, lock_to_open};
+ghost use Rattle.night_files.specs.RecordUses.{lock_to_take_over, refusal_of};
 ghost use Rattle.night_files.specs.RecordUses.{refusal_once_locked};
 
 use crate::lock_request::FileLock;
@@ -13,6 +14,17 @@ pub enum RecordUse {
     Resume,
     /// A night that another process keeps in it is watched.
     Watch,
+}
+
+/// What a file is opened for.
+#[derive(Clone, Copy, Debug, PartialEq, Eq)]
+pub struct FileAccess {
+    pub reads: bool,
+    pub writes: bool,
+    /// What is written comes behind its end.
+    pub appends: bool,
+    /// It is made where it is not there.
+    pub creates: bool,
 }
 
 /// Why no record is kept in a file.
@@ -31,6 +43,19 @@ pub enum RecordRefusal {
 }
 
 impl RecordUse {
+    /// How the file is opened, by whether its name leads to a FIFO.
+    pub fn access_to(self, is_fifo: bool) -> FileAccess
+        ensures { result ≡ access_to self is_fifo }
+    {
+        let both_ways = is_fifo && self != RecordUse::Watch;
+        FileAccess {
+            reads: both_ways || self != RecordUse::Begin,
+            writes: both_ways,
+            appends: !both_ways,
+            creates: !both_ways && self != RecordUse::Watch,
+        }
+    }
+
     /// Why a file is refused, by whether it is a regular file, and how many bytes stand in it.
     pub fn refusal_of(self, is_regular: bool, length: u64) -> Option<RecordRefusal>
         ensures { result ≡ refusal_of self is_regular length }
@@ -87,4 +112,12 @@ pub fn lock_to_take_over(lock: FileLock) -> Result<bool, RecordRefusal>
         FileLock::Theirs => Ok(false),
         FileLock::Missing => Err(RecordRefusal::NoLocks),
     }
+}
+
+/// Whether no night began in a file, by the answer of its lock, and by how many bytes stand in it,
+/// where the system says.
+pub fn is_unused(lock: FileLock, length: Option<u64>) -> bool
+    ensures { result ≡ is_unused lock length }
+{
+    lock == FileLock::Ours && length == Some(0)
 }

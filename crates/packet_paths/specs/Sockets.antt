@@ -1,6 +1,9 @@
 -- From which address packets come, and when a socket is tied to its card.
 use Rattle.std.specs.Prelude.{ℕ, Bool, true, false, ◌&&◌, not, List, nat_eq, Option, Some, None}
+use Rattle.std.specs.Prelude.{◌==◌, if◌then◌else◌}
 use Rattle.std.specs.Option.{option_or}
+use Rattle.std.specs.declared.io.ErrorKind.{ErrorKind}
+use Rattle.std.specs.declared.io.ErrorKind.TheVariants as kind
 
 -- the address that packets come from: that of the card that is named, else the one that the route
 -- to their host gives
@@ -18,3 +21,16 @@ same_number (Some a) (Some b) = nat_eq a b
 -- to; none is where any route will do
 abbrev pub is_tie_due : Option ℕ → Option ℕ → Bool → Bool
 is_tie_due card tied is_any_route = not is_any_route && not (same_number card tied)
+
+-- the number of another card
+abbrev pub other_card : ℕ → ℕ
+other_card index = if index == 1 then 2 else 1
+
+-- the system refuses a card for a socket that is tied to another one
+abbrev pub is_refused : ErrorKind → Bool
+is_refused kind.InvalidInput = true
+is_refused other = false
+
+-- so a socket is tied to a card where it does not refuse this one, and refuses another
+abbrev pub is_tied : ErrorKind → ErrorKind → Bool
+is_tied own other = not (is_refused own) && is_refused other

@@ -1,5 +1,8 @@
 ghost use Rattle.std.specs.Prelude.{◌≡◌};
-ghost use Rattle.packet_paths.specs.Sockets.{is_tie_due, same_number, source_address};
+ghost use Rattle.packet_paths.specs.Sockets.{is_refused, is_tie_due, is_tied, other_card};
+ghost use Rattle.packet_paths.specs.Sockets.{same_number, source_address};
+
+use std::io::ErrorKind;
 
 /// The address that packets to a host come from: that of the card that was named, if one was; else
 /// the one that the route to the host gives.
@@ -28,4 +31,25 @@ fn is_same_number(card: Option<u32>, tied: Option<u32>) -> bool
         (Some(card), Some(tied)) => card == tied,
         _ => false,
     }
+}
+
+/// The number of another card than this one, which need not be there.
+pub fn other_card(index: u32) -> u32
+    ensures { result ≡ other_card index }
+{
+    if index == 1 { 2 } else { 1 }
+}
+
+/// Whether a socket is tied to a card, by the system's reasons for not connecting it by that card,
+/// and by another one: only the other is refused since the socket may not leave by it.
+pub fn is_tied(own: ErrorKind, other: ErrorKind) -> bool
+    ensures { result ≡ is_tied own other }
+{
+    !is_refused(own) && is_refused(other)
+}
+
+fn is_refused(kind: ErrorKind) -> bool
+    ensures { result ≡ is_refused kind }
+{
+    matches!(kind, ErrorKind::InvalidInput)
 }

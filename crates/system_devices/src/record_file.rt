@@ -71,7 +71,7 @@ impl RecordFile {
         } else {
             RecordUse::Begin
         };
-        let file = open_file(rt, name, resumes).map_err(of_system)?;
+        let file = open_file(rt, name, purpose).map_err(of_system)?;
         let found = file.metadata().map_err(of_system)?;
         let mut record = RecordFile::new(rt, file);
         record.accept(rt, purpose.refusal_of(found.is_file(), found.len()))?;
@@ -91,11 +91,7 @@ impl RecordFile {
     ///
     /// As [`RecordFault`] lists them.
     pub fn watch(rt: &HostRuntime, name: &str) -> Result<Self, RecordFault> {
-        let file = OpenOptions::new()
-            .read(true)
-            .append(true)
-            .open(rt, name)
-            .map_err(of_system)?;
+        let file = open_file(rt, name, RecordUse::Watch).map_err(of_system)?;
         let found = file.metadata().map_err(of_system)?;
         let mut record = RecordFile::new(rt, file);
         record.accept(
@@ -230,19 +226,17 @@ fn of_system(error: Error) -> RecordFault {
     }
 }
 
-// A FIFO is opened for reading too: so it is there at once, whether anybody reads it or not.
-fn open_file(rt: &HostRuntime, name: &str, is_read: bool) -> Result<File, Error> {
+fn open_file(rt: &HostRuntime, name: &str, purpose: RecordUse) -> Result<File, Error> {
     let is_fifo = match metadata(rt, name) {
         Ok(found) => found.file_type().is_fifo(),
         Err(_) => false,
     };
-    if is_fifo {
-        return OpenOptions::new().read(true).write(true).open(rt, name);
-    }
+    let access = purpose.access_to(is_fifo);
     OpenOptions::new()
-        .read(is_read)
-        .append(true)
-        .create(true)
+        .read(access.reads)
+        .write(access.writes)
+        .append(access.appends)
+        .create(access.creates)
         .open(rt, name)
 }
 

@@ -1,6 +1,6 @@
 ghost use Rattle.std.specs.Prelude.{[]};
 
-use night_files::{FileLock, LockRequest, ask_for_lock};
+use night_files::{FileLock, LockRequest, ask_for_lock, descriptor_in, is_unused};
 use std::env;
 use std::fs::{File, Metadata, metadata, remove_file};
 use std::os::fd::{AsRawFd, RawFd};
@@ -15,8 +15,6 @@ const SHARED: &str = "CUEPLAYER_RECORD_FILE";
 
 // Names the record's file where it was made for this run, so that the writer could be given it.
 const MADE: &str = "CUEPLAYER_RECORD_MADE";
-
-const DESCRIPTORS: &str = "/dev/fd/";
 
 /// The lock of an open file. It does not tell the steps towards it.
 #[derive(Drop)]
@@ -84,15 +82,13 @@ pub fn remove_unused_record(rt: &HostRuntime, made: Option<&str>) {
     let Ok(file) = File::open(rt, name) else {
         return;
     };
-    if lock_at_once(rt, &file) == FileLock::Ours && is_empty(&file) {
+    let lock = lock_at_once(rt, &file);
+    let length = match file.metadata() {
+        Ok(found) => Some(found.len()),
+        Err(_) => None,
+    };
+    if is_unused(lock, length) {
         let _ = remove_file(rt, name);
-    }
-}
-
-fn is_empty(file: &File) -> bool {
-    match file.metadata() {
-        Ok(found) => found.len() == 0,
-        Err(_) => false,
     }
 }
 
@@ -107,7 +103,7 @@ fn shared(rt: &HostRuntime, file: &File) -> Option<RawFd> {
     let found = metadata(rt, name.as_str()).ok()?;
     let own = file.metadata().ok()?;
     if is_same(&found, &own) {
-        name.as_str().strip_prefix(DESCRIPTORS)?.parse().ok()
+        RawFd::try_from(descriptor_in(name.as_str().as_bytes())?).ok()
     } else {
         None
     }
