@@ -6,6 +6,7 @@ use network_tables::{
     CardName, CardState, Cards, Holder, MOST_CARDS, OwnAddresses, Route, TreeLine, card_among,
     holder_of, host_beside, is_widest, row_name,
 };
+use packet_paths::card_from;
 use std::fmt::Write;
 
 // A line for each card.
@@ -15,9 +16,6 @@ const NAMES: &str = "/proc/net/dev";
 const TREE: &str = "/proc/net/fib_trie";
 
 const LOOP: &str = "lo";
-
-// In the place of a name.
-const UNKNOWN: &str = "?";
 
 /// Reads the network cards of this machine from the system's files.
 pub fn read_cards(rt: &HostRuntime) -> Cards {
@@ -106,11 +104,7 @@ fn ask_cards(rt: &HostRuntime, address: [u8; 4], host: [u8; 4], networks: &[Rout
 /// The card of an address of this machine that packets to a host come from.
 pub fn card_to(rt: &HostRuntime, address: [u8; 4], host: [u8; 4]) -> CardName {
     let card = read_cards(rt).of_address(address);
-    match (card.and_then(|card| card.name), route_to(rt, host)) {
-        (Some(name), _) => name,
-        (None, Some(route)) => route.card,
-        (None, None) => CardName::from(UNKNOWN).unwrap_or_default(),
-    }
+    card_from(card.and_then(|card| card.name), route_to(rt, host))
 }
 
 /// How the card of this name is, by the system's files.

@@ -1,21 +1,10 @@
-use arrayvec::ArrayString;
+use crate::record_lock::SystemLock;
+use night_files::{FileLock, PathText, ask_for_lock, lock_folder, lock_path, runtime_folder};
 use std::env::VarError;
-use std::fmt::Write;
-use std::fs::{File, OpenOptions, TryLockError, create_dir, metadata, symlink_metadata};
+use std::fs::{File, OpenOptions, create_dir, metadata, symlink_metadata};
 use std::io::{Error, ErrorKind};
 use std::os::unix::fs::MetadataExt;
-use std::thread::sleep;
-use std::time::Duration;
 use std::{env, io};
-
-// A console that ended, or that was ended, has let its lock go within so many turns.
-const TURNS: u32 = 100;
-
-// How long a turn is, in milliseconds.
-const TURN: u64 = 10;
-
-/// There is room for the folder that the environment names.
-pub type PathText = ArrayString<512>;
 
 /// Why a lock is not had.
 #[derive(Debug, Drop)]
@@ -47,25 +36,22 @@ impl CidLock {
             }
             Err(_) => return Ok(None),
         };
-        for _ in 0..TURNS {
-            match file.try_lock() {
-                Ok(()) => return Ok(Some(CidLock { file })),
-                Err(TryLockError::Error(_)) => return Ok(None),
-                Err(TryLockError::WouldBlock) => sleep(rt, Duration::from_millis(TURN)),
-            }
+        match ask_for_lock(&mut SystemLock::of(rt, &file)) {
+            FileLock::Ours => Ok(Some(CidLock { file })),
+            FileLock::Theirs => Err(LockFault::Held(path)),
+            FileLock::Missing => Ok(None),
         }
-        Err(LockFault::Held(path))
     }
 }
 
 // The file of the lock, in a folder of this user's own.
 fn open(rt: &HostRuntime, cid: [u8; 16]) -> io::Result<(PathText, File)> {
-    let mut path = folder(rt)?;
-    let _ = path.try_push_str("/");
-    for byte in cid {
-        let _ = write!(path, "{byte:02x}");
-    }
-    path.try_push_str(".lock").map_err(|_| too_long())?;
+    let folder = folder(rt)?;
+    let path = match lock_path(rt.alloc(), &folder, cid) {
+        Ok(Some(path)) => path,
+        Ok(None) => return Err(Error::from(ErrorKind::InvalidFilename)),
+        Err(_) => return Err(Error::from(ErrorKind::OutOfMemory)),
+    };
     let file = OpenOptions::new()
         .read(true)
         .write(true)
@@ -74,26 +60,18 @@ fn open(rt: &HostRuntime, cid: [u8; 16]) -> io::Result<(PathText, File)> {
     Ok((path, file))
 }
 
-// The folder `cueplayer` of the user's runtime folder, or one below /tmp. It is made where it is
-// not there.
+// The folder of the locks. It is made where it is not there.
 fn folder(rt: &HostRuntime) -> io::Result<PathText> {
     let user = metadata(rt, "/proc/self")?.uid();
-    let mut path = PathText::new();
-    let mut own = PathText::new();
-    let _ = write!(own, "/run/user/{user}");
-    match env::var(rt, "XDG_RUNTIME_DIR") {
-        Ok(named) if !named.is_empty() => {
-            path.try_push_str(named.as_str()).map_err(|_| too_long())?;
-            path.try_push_str("/cueplayer").map_err(|_| too_long())?;
-        }
+    let has_runtime = is_own_folder(rt, runtime_folder(user).as_str(), user);
+    let path = match env::var(rt, "XDG_RUNTIME_DIR") {
+        Ok(named) => lock_folder(named.as_str(), has_runtime, user),
         Err(VarError::OutOfMemory) => return Err(Error::from(ErrorKind::OutOfMemory)),
-        _ if is_own_folder(rt, own.as_str(), user) => {
-            let _ = write!(path, "{own}/cueplayer");
-        }
-        _ => {
-            let _ = write!(path, "/tmp/cueplayer-{user}");
-        }
-    }
+        Err(_) => lock_folder("", has_runtime, user),
+    };
+    let Some(path) = path else {
+        return Err(Error::from(ErrorKind::InvalidFilename));
+    };
     match create_dir(rt, path.as_str()) {
         Err(error) if error.kind() != ErrorKind::AlreadyExists => return Err(error),
         _ => {}
@@ -110,8 +88,4 @@ fn is_own_folder(rt: &HostRuntime, path: &str, user: u32) -> bool {
         Ok(found) => found.is_dir() && found.uid() == user,
         Err(_) => false,
     }
-}
-
-fn too_long() -> Error {
-    Error::from(ErrorKind::InvalidFilename)
 }

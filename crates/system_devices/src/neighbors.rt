@@ -1,6 +1,6 @@
-use crate::network::Path;
 use crate::system_lines::SystemLines;
 use network_tables::Neighbor;
+use packet_paths::Path;
 
 const NEIGHBORS: &str = "/proc/net/arp";
 
@@ -34,7 +34,7 @@ impl Neighbors {
                 return;
             };
             for path in &mut *paths {
-                path.silence = neighbor.silence_of(path.neighbor, path.has_link, path.silence);
+                path.take_row(&neighbor);
             }
         }
     }

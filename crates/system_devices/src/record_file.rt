@@ -2,11 +2,12 @@ use crate::bounded_output::{BoundedOutput, Names};
 use crate::fault::DeviceFault;
 use crate::lock_holder::holder;
 use crate::record::Record;
-use crate::record_lock::{FileLock, is_same, lock, lock_at_once};
+use crate::record_lock::{is_same, lock, lock_at_once};
 use byte_reading::{Unread, first_bytes};
 use line_queue::Notice;
+use night_files::{RecordRefusal, RecordUse, lock_to_open, lock_to_take_over};
 use night_record::silence_of;
-use std::fs::{File, Metadata, OpenOptions, metadata};
+use std::fs::{File, OpenOptions, metadata};
 use std::io::{Error, ErrorKind};
 use std::os::unix::fs::FileTypeExt;
 use std::time::{Instant, SystemTime};
@@ -65,22 +66,21 @@ impl RecordFile {
     ///
     /// As [`RecordFault`] lists them. The file is as it was then.
     pub fn open(rt: &HostRuntime, name: &str, resumes: bool) -> Result<Self, RecordFault> {
-        let file = open_file(rt, name, resumes).map_err(of_system)?;
-        let found = file.metadata().map_err(of_system)?;
-        if !resumes {
-            refuse_lines(&found)?;
-        } else if !found.is_file() {
-            return Err(RecordFault::NoFile);
-        }
-        let mut record = RecordFile {
-            file,
-            text: Vec::new(rt.alloc()),
-            pause: None,
-            has_lock: true,
+        let purpose = if resumes {
+            RecordUse::Resume
+        } else {
+            RecordUse::Begin
         };
+        let file = open_file(rt, name, purpose).map_err(of_system)?;
+        let found = file.metadata().map_err(of_system)?;
+        let mut record = RecordFile::new(rt, file);
+        record.accept(rt, purpose.refusal_of(found.is_file(), found.len()))?;
         if found.is_file() {
-            record.lock(rt, name)?;
-            record.read(rt, resumes)?;
+            record.has_lock = record.answer(rt, lock_to_open(lock(rt, &record.file)))?;
+            record.accept_once_locked(rt, name, purpose)?;
+        }
+        if resumes {
+            record.read(rt)?;
         }
         Ok(record)
     }
@@ -91,20 +91,15 @@ impl RecordFile {
     ///
     /// As [`RecordFault`] lists them.
     pub fn watch(rt: &HostRuntime, name: &str) -> Result<Self, RecordFault> {
-        let file = OpenOptions::new()
-            .read(true)
-            .append(true)
-            .open(rt, name)
-            .map_err(of_system)?;
-        if !file.metadata().map_err(of_system)?.is_file() {
-            return Err(RecordFault::NoFile);
-        }
-        Ok(RecordFile {
-            file,
-            text: Vec::new(rt.alloc()),
-            pause: None,
-            has_lock: false,
-        })
+        let file = open_file(rt, name, RecordUse::Watch).map_err(of_system)?;
+        let found = file.metadata().map_err(of_system)?;
+        let mut record = RecordFile::new(rt, file);
+        record.accept(
+            rt,
+            RecordUse::Watch.refusal_of(found.is_file(), found.len()),
+        )?;
+        record.has_lock = false;
+        Ok(record)
     }
 
     /// Takes the lock of a watched file, unless the night of its record is still kept in it, by its
@@ -114,43 +109,66 @@ impl RecordFile {
     ///
     /// `NoLocks` where the file system has none; `File` as [`RecordFault`] lists it.
     pub fn take_over(&mut self, rt: &HostRuntime, name: &str) -> Result<bool, RecordFault> {
-        match lock_at_once(rt, &self.file) {
-            FileLock::Theirs => return Ok(false),
-            FileLock::Missing => return Err(RecordFault::NoLocks),
-            FileLock::Ours => self.has_lock = true,
+        self.has_lock = self.answer(rt, lock_to_take_over(lock_at_once(rt, &self.file)))?;
+        if self.has_lock {
+            self.accept_once_locked(rt, name, RecordUse::Watch)?;
+            self.pause = Some(pause_of(rt, &self.file).map_err(of_system)?);
         }
-        self.refuse_other_name(rt, name)?;
-        let found = self.file.metadata().map_err(of_system)?;
-        self.pause = Some(pause_of(rt, &found).map_err(of_system)?);
-        Ok(true)
+        Ok(self.has_lock)
     }
 
-    fn lock(&mut self, rt: &HostRuntime, name: &str) -> Result<(), RecordFault> {
-        match lock(rt, &self.file) {
-            FileLock::Ours => {}
-            FileLock::Theirs => return Err(RecordFault::InUse(holder(rt, &self.file))),
-            FileLock::Missing => self.has_lock = false,
+    fn new(rt: &HostRuntime, file: File) -> Self {
+        RecordFile {
+            file,
+            text: Vec::new(rt.alloc()),
+            pause: None,
+            has_lock: true,
         }
-        self.refuse_other_name(rt, name)
     }
 
-    // A file that was removed meanwhile, or that has another name now, is none to begin in.
-    fn refuse_other_name(&self, rt: &HostRuntime, name: &str) -> Result<(), RecordFault> {
+    fn accept(&self, rt: &HostRuntime, refusal: Option<RecordRefusal>) -> Result<(), RecordFault> {
+        match refusal {
+            None => Ok(()),
+            Some(refusal) => Err(self.fault_of(rt, refusal)),
+        }
+    }
+
+    fn answer(
+        &self,
+        rt: &HostRuntime,
+        lock: Result<bool, RecordRefusal>,
+    ) -> Result<bool, RecordFault> {
+        match lock {
+            Ok(has_lock) => Ok(has_lock),
+            Err(refusal) => Err(self.fault_of(rt, refusal)),
+        }
+    }
+
+    fn accept_once_locked(
+        &self,
+        rt: &HostRuntime,
+        name: &str,
+        purpose: RecordUse,
+    ) -> Result<(), RecordFault> {
         let named = metadata(rt, name).map_err(of_system)?;
-        let locked = self.file.metadata().map_err(of_system)?;
-        if is_same(&named, &locked) {
-            Ok(())
-        } else {
-            Err(RecordFault::File(ErrorKind::NotFound))
+        let found = self.file.metadata().map_err(of_system)?;
+        let is_named = is_same(&named, &found);
+        let refusal = purpose.refusal_once_locked(is_named, found.is_file(), found.len());
+        self.accept(rt, refusal)
+    }
+
+    fn fault_of(&self, rt: &HostRuntime, refusal: RecordRefusal) -> RecordFault {
+        match refusal {
+            RecordRefusal::NotEmpty => RecordFault::NotEmpty,
+            RecordRefusal::NoFile => RecordFault::NoFile,
+            RecordRefusal::InUse => RecordFault::InUse(holder(rt, &self.file)),
+            RecordRefusal::NoLocks => RecordFault::NoLocks,
+            RecordRefusal::OtherName => RecordFault::File(ErrorKind::NotFound),
         }
     }
 
-    fn read(&mut self, rt: &HostRuntime, resumes: bool) -> Result<(), RecordFault> {
-        let found = self.file.metadata().map_err(of_system)?;
-        if !resumes {
-            return refuse_lines(&found);
-        }
-        self.pause = Some(pause_of(rt, &found).map_err(of_system)?);
+    fn read(&mut self, rt: &HostRuntime) -> Result<(), RecordFault> {
+        self.pause = Some(pause_of(rt, &self.file).map_err(of_system)?);
         match first_bytes(rt.alloc(), &mut self.file, usize::MAX) {
             Ok(text) => self.text = text,
             Err(Unread::Device(kind)) => return Err(RecordFault::File(kind)),
@@ -201,14 +219,6 @@ impl RecordFile {
     }
 }
 
-fn refuse_lines(found: &Metadata) -> Result<(), RecordFault> {
-    if found.len() > 0 {
-        Err(RecordFault::NotEmpty)
-    } else {
-        Ok(())
-    }
-}
-
 fn of_system(error: Error) -> RecordFault {
     match error.kind() {
         ErrorKind::OutOfMemory => RecordFault::Memory,
@@ -216,25 +226,23 @@ fn of_system(error: Error) -> RecordFault {
     }
 }
 
-// A FIFO is opened for reading too: so it is there at once, whether anybody reads it or not.
-fn open_file(rt: &HostRuntime, name: &str, is_read: bool) -> Result<File, Error> {
+fn open_file(rt: &HostRuntime, name: &str, purpose: RecordUse) -> Result<File, Error> {
     let is_fifo = match metadata(rt, name) {
         Ok(found) => found.file_type().is_fifo(),
         Err(_) => false,
     };
-    if is_fifo {
-        return OpenOptions::new().read(true).write(true).open(rt, name);
-    }
+    let access = purpose.access_to(is_fifo);
     OpenOptions::new()
-        .read(is_read)
-        .append(true)
-        .create(true)
+        .read(access.reads)
+        .write(access.writes)
+        .append(access.appends)
+        .create(access.creates)
         .open(rt, name)
 }
 
 // Where the system's clock ran back, nothing of it counts.
-fn pause_of(rt: &HostRuntime, file: &Metadata) -> Result<Pause, Error> {
-    let written = file.modified()?;
+fn pause_of(rt: &HostRuntime, file: &File) -> Result<Pause, Error> {
+    let written = file.metadata()?.modified()?;
     let until = Instant::now(rt)?;
     let milliseconds = match SystemTime::now(rt)?.duration_since(written) {
         Ok(passed) => silence_of(passed),

@@ -1,3 +1,6 @@
+ghost use Rattle.std.specs.Prelude.{[]};
+
+use night_files::{FileLock, LockRequest, ask_for_lock, descriptor_in, is_unused};
 use std::env;
 use std::fs::{File, Metadata, metadata, remove_file};
 use std::os::fd::{AsRawFd, RawFd};
@@ -13,40 +16,58 @@ const SHARED: &str = "CUEPLAYER_RECORD_FILE";
 // Names the record's file where it was made for this run, so that the writer could be given it.
 const MADE: &str = "CUEPLAYER_RECORD_MADE";
 
-const DESCRIPTORS: &str = "/dev/fd/";
-
-// What a night that was killed left behind is written within so many turns, unless the disk stalls.
-const TURNS: u32 = 100;
-
-// How long a turn is, in milliseconds.
-const TURN: u64 = 10;
-
-/// The lock of a file.
-#[derive(Clone, Copy, Debug, PartialEq, Eq)]
-pub enum FileLock {
-    /// It is held until this program, and whoever writes the file for it, have ended.
-    Ours,
-    /// Another process holds it.
-    Theirs,
-    /// The file system has none.
-    Missing,
+/// The lock of an open file. It does not tell the steps towards it.
+#[derive(Drop)]
+pub struct SystemLock<'a> {
+    rt: &'a HostRuntime,
+    descriptor: RawFd,
 }
 
-/// Locks a record's file, within a second.
-pub fn lock(rt: &HostRuntime, file: &File) -> FileLock {
-    let descriptor = locked_by(rt, file);
-    for _ in 0..TURNS {
-        match lock_now(descriptor) {
-            FileLock::Theirs => sleep(rt, Duration::from_millis(TURN)),
-            lock => return lock,
+impl<'a> SystemLock<'a> {
+    /// The lock of a file, by its own descriptor.
+    pub fn of(rt: &'a HostRuntime, file: &File) -> Self {
+        let descriptor = file.as_raw_fd();
+        SystemLock { rt, descriptor }
+    }
+
+    // The lock of a record's file.
+    fn of_record(rt: &'a HostRuntime, file: &File) -> Self {
+        match shared(rt, file) {
+            Some(descriptor) => SystemLock { rt, descriptor },
+            None => SystemLock::of(rt, file),
         }
     }
-    FileLock::Theirs
+}
+
+impl LockRequest for SystemLock<'_> {
+    ghost tells = { λ _. ⊥ };
+
+    ghost steps = { λ _. [] };
+
+    fn ask(&mut self) -> FileLock {
+        if libc::flock(self.descriptor, libc::LOCK_EX | libc::LOCK_NB) == 0 {
+            return FileLock::Ours;
+        }
+        match os::errno() {
+            libc::EAGAIN | libc::EINTR => FileLock::Theirs,
+            _ => FileLock::Missing,
+        }
+    }
+
+    fn sleep(&mut self, milliseconds: u64) {
+        sleep(self.rt, Duration::from_millis(milliseconds));
+    }
+}
+
+/// Locks a record's file, within a second: what a night that was killed left behind is written
+/// within it, unless the disk stalls.
+pub fn lock(rt: &HostRuntime, file: &File) -> FileLock {
+    ask_for_lock(&mut SystemLock::of_record(rt, file))
 }
 
 /// Locks a record's file, unless it is held.
 pub fn lock_at_once(rt: &HostRuntime, file: &File) -> FileLock {
-    lock_now(locked_by(rt, file))
+    SystemLock::of_record(rt, file).ask()
 }
 
 /// Removes the file of a record if no night began in it: the one of this name, or the one that was
@@ -61,16 +82,13 @@ pub fn remove_unused_record(rt: &HostRuntime, made: Option<&str>) {
     let Ok(file) = File::open(rt, name) else {
         return;
     };
-    let descriptor = locked_by(rt, &file);
-    if lock_now(descriptor) == FileLock::Ours && is_empty(&file) {
+    let lock = lock_at_once(rt, &file);
+    let length = match file.metadata() {
+        Ok(found) => Some(found.len()),
+        Err(_) => None,
+    };
+    if is_unused(lock, length) {
         let _ = remove_file(rt, name);
-    }
-}
-
-fn is_empty(file: &File) -> bool {
-    match file.metadata() {
-        Ok(found) => found.len() == 0,
-        Err(_) => false,
     }
 }
 
@@ -79,32 +97,14 @@ pub fn is_same(left: &Metadata, right: &Metadata) -> bool {
     left.dev() == right.dev() && left.ino() == right.ino()
 }
 
-// The descriptor by which a record's file is locked.
-fn locked_by(rt: &HostRuntime, file: &File) -> RawFd {
-    match shared(rt, file) {
-        Some(descriptor) => descriptor,
-        None => file.as_raw_fd(),
-    }
-}
-
 // The descriptor that is shared with the writer of this file, where there is one.
 fn shared(rt: &HostRuntime, file: &File) -> Option<RawFd> {
     let name = env::var(rt, SHARED).ok()?;
     let found = metadata(rt, name.as_str()).ok()?;
     let own = file.metadata().ok()?;
     if is_same(&found, &own) {
-        name.as_str().strip_prefix(DESCRIPTORS)?.parse().ok()
+        RawFd::try_from(descriptor_in(name.as_str().as_bytes())?).ok()
     } else {
         None
-    }
-}
-
-fn lock_now(descriptor: RawFd) -> FileLock {
-    if libc::flock(descriptor, libc::LOCK_EX | libc::LOCK_NB) == 0 {
-        return FileLock::Ours;
-    }
-    match os::errno() {
-        libc::EAGAIN | libc::EINTR => FileLock::Theirs,
-        _ => FileLock::Missing,
     }
 }

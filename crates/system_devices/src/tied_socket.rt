@@ -1,5 +1,6 @@
 use crate::cards::card_index;
 use crate::socket::send_whole;
+use packet_paths::{is_tied, other_card};
 use std::io::ErrorKind;
 use std::net::{IpAddr, Ipv4Addr, Ipv6Addr, SocketAddr, SocketAddrV6, UdpSocket};
 
@@ -46,14 +47,14 @@ impl TiedSocket {
 // fails, as from an address of IPv4. Whether it is tied shows at once: another card is then refused
 // for that reason.
 fn tie(rt: &HostRuntime, address: [u8; 4], index: u32) -> Option<UdpSocket> {
-    let other = if index == 1 { 2 } else { 1 };
     let socket = UdpSocket::bind(rt, mapped(address, 0)).ok()?;
-    let first = socket.connect(neighbor_by(index)).err()?.kind();
-    let second = socket.connect(neighbor_by(other)).err()?.kind();
-    if first == ErrorKind::InvalidInput || second != ErrorKind::InvalidInput {
-        return None;
+    let own = socket.connect(neighbor_by(index)).err()?.kind();
+    let other = socket.connect(neighbor_by(other_card(index))).err()?.kind();
+    if is_tied(own, other) {
+        Some(socket)
+    } else {
+        None
     }
-    Some(socket)
 }
 
 /// The address that a packet to this host would come from by this card; `None` where the system

@@ -1,0 +1,4 @@
+pub mod LockLists
+pub mod LockPaths
+pub mod LockSteps
+pub mod RecordUses

@@ -1,0 +1,69 @@
+ghost use Rattle.std.specs.Prelude.{◌≡◌, ◌++◌, IfOk, codes, option_map};
+ghost use Rattle.night_files.specs.LockPaths.{fitting, lock_folder, lock_path, runtime_folder};
+
+use arrayvec::ArrayString;
+use itoa::Buffer;
+use std::alloc::{AllocError, Global};
+
+/// There is room for the folder that the environment names.
+pub type PathText = ArrayString<512>;
+
+/// The folder that the system gives the user of this number, as `/run/user/1000`.
+pub fn runtime_folder(user: u32) -> PathText
+    ensures { result.bytes ≡ runtime_folder user }
+{
+    let mut path = PathText::new();
+    path.push_str("/run/user/");
+    path.push_str(Buffer::new().format(user));
+    path
+}
+
+/// The folder of the locks of CIDs, by what the environment names as the user's runtime folder,
+/// which is empty where it names none; by whether [`runtime_folder`] is the user's own; and by the
+/// user's number. There is none where its name is too long.
+pub fn lock_folder(named: &str, has_runtime: bool, user: u32) -> Option<PathText>
+    ensures { option_map (λ path. path.bytes) result
+        ≡ fitting (lock_folder named.now has_runtime user) }
+{
+    let mut path = PathText::new();
+    if named.is_empty() && !has_runtime {
+        path.push_str("/tmp/cueplayer-");
+        path.push_str(Buffer::new().format(user));
+        return Some(path);
+    }
+    if named.is_empty() {
+        path.push_str(runtime_folder(user).as_str());
+    } else {
+        path.try_push_str(named).ok()?;
+    }
+    path.try_push_str("/cueplayer").ok()?;
+    Some(path)
+}
+
+/// The file of the lock of a CID in their folder. There is none where its name is too long.
+///
+/// # Errors
+///
+/// If an allocation failed.
+pub fn lock_path(
+    alloc: Global,
+    folder: &PathText,
+    cid: [u8; 16],
+) -> Result<Option<PathText>, AllocError>
+    ensures { IfOk result (λ found. option_map (λ path. path.bytes) found
+        ≡ fitting (lock_path folder.now.bytes cid)) }
+{
+    let digits = hex::encode(alloc, cid)?;
+    Ok(path_of(folder, digits.as_str()))
+}
+
+fn path_of(folder: &PathText, digits: &str) -> Option<PathText>
+    ensures { option_map (λ path. path.bytes) result
+        ≡ fitting (folder.now.bytes ++ codes "/" ++ digits.now ++ codes ".lock") }
+{
+    let mut path = *folder;
+    path.try_push_str("/").ok()?;
+    path.try_push_str(digits).ok()?;
+    path.try_push_str(".lock").ok()?;
+    Some(path)
+}

@@ -1,0 +1,57 @@
+-- Which path a packet has.
+use Rattle.std.specs.Prelude.{ℕ, Bool, true, false, ◌&&◌, List, [], ◌∷◌, ◌==◌, bytes_eq, nat_le}
+use Rattle.std.specs.Prelude.{Option, Some, None, slice_index, if◌then◌else◌}
+use Rattle.std.specs.List.{position}
+use Rattle.link_notices.specs.declared.look.HostPath.{HostPath}
+use Rattle.link_notices.specs.declared.path.PathState.{PathState}
+use Rattle.link_notices.specs.declared.path.PathState.TheVariants.{Leads, Nowhere}
+use Rattle.packet_paths.specs.declared.path.Path.{Path}
+
+-- an address of a multicast group: its first number is from 224 to 239
+abbrev pub is_multicast : List ℕ → Bool
+is_multicast host = nat_le 224 (slice_index host 0) && nat_le (slice_index host 0) 239
+
+-- one that a universe can have: 239.255 and two numbers
+abbrev pub is_group : List ℕ → Bool
+is_group host = (slice_index host 0 == 239) && (slice_index host 1 == 255)
+
+-- the place of the path of a host
+abbrev pub path_place : List Path → List ℕ → Option ℕ
+path_place paths host = position (λ path. bytes_eq path.host host) paths
+
+-- the place of the path of a packet: its host's own; else, for the group of a universe, that of
+-- 239.255.0.0, which stands for them all
+abbrev pub or_groups : Option ℕ → List Path → List ℕ → Option ℕ
+or_groups (Some place) paths host = Some place
+or_groups None paths host =
+    if is_group host then path_place paths (239 ∷ 255 ∷ 0 ∷ 0 ∷ []) else None
+
+abbrev pub packet_place : List Path → List ℕ → Option ℕ
+packet_place paths host = or_groups (path_place paths host) paths host
+
+-- a path that was not looked along so far: it leads where there is an address to send from
+abbrev pub new_path : List ℕ → Option ℕ → Bool → Path
+new_path host source has_address = record {
+  host = host;
+  source = source;
+  state = if has_address then Leads else Nowhere;
+  neighbor = None;
+  silence = 0;
+  has_link = true;
+  route = None;
+  look_time = None;
+}
+
+-- what is known of it
+abbrev pub host_path : Path → HostPath
+host_path path = record { source = path.source; state = path.state; silence = path.silence }
+
+-- where there is no path, no route leads there
+abbrev pub state_of : Option Path → PathState
+state_of None = Nowhere
+state_of (Some path) = path.state
+
+-- no route leads to its host
+abbrev pub is_nowhere : PathState → Bool
+is_nowhere Nowhere = true
+is_nowhere state = false

@@ -1,0 +1,4 @@
+pub mod Hosts
+pub mod Routes
+pub mod Takers
+pub mod Sockets

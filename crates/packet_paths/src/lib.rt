@@ -1,0 +1,24 @@
+//! By which paths the packets of a night leave this machine: which one a packet has, where its
+//! route leads, how long a look at that counts, and who takes its packets first.
+//!
+//! What is known of the system is asked of a [`RouteSystem`], and the contracts say in what order.
+//!
+//! ```
+//! let mut path = Path::new(host, Some(0), true);
+//! path.look_before(&mut system, Some(source), false);
+//! let sending = sending_of(Some(path), Some(state), false);
+//! ```
+#![tactic(auto)]
+
+mod hosts;
+pub mod memory;
+mod path;
+mod sockets;
+mod system;
+mod takers;
+
+pub use hosts::{is_multicast, packet_place, path_place};
+pub use path::{Path, sending_of};
+pub use sockets::{is_tie_due, is_tied, other_card, source_address};
+pub use system::{Question, RouteSystem};
+pub use takers::{card_from, first_taker, is_taken_here};

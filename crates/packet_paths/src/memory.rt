@@ -1,0 +1,126 @@
+//! A system over memory, which tells what it was asked.
+
+ghost use Rattle.std.specs.Prelude.{◌≡◌, false, None, [], ◌∷◌, ◌++◌};
+ghost use Rattle.packet_paths.specs.declared.system.Question.TheVariants as question;
+
+use crate::system::{Question, RouteSystem};
+use network_tables::CardName;
+use std::alloc::Global;
+
+/// A system over memory. It stops telling where memory for a question is refused.
+#[derive(Debug, Drop)]
+pub struct MemorySystem {
+    /// The time, in nanoseconds.
+    pub time: Option<u64>,
+    /// The address that packets to any host would come from.
+    pub source: Option<[u8; 4]>,
+    /// The card of each address.
+    pub card: CardName,
+    /// Who takes the packets to any host first.
+    pub neighbor: Option<[u8; 4]>,
+    /// The questions, the first first.
+    pub questions: Vec<Question>,
+    /// Memory was refused: questions are missing.
+    pub full: bool,
+}
+
+impl MemorySystem {
+    /// A system that was not asked yet, has no clock, and from which no route leads.
+    pub fn new(alloc: Global, card: CardName) -> Self
+        ensures time { result.time ≡ None }
+        ensures source { result.source ≡ None }
+        ensures card { result.card ≡ card }
+        ensures neighbor { result.neighbor ≡ None }
+        ensures questions { result.questions.items ≡ [] }
+        ensures tells { result.full ≡ false }
+    {
+        MemorySystem {
+            time: None,
+            source: None,
+            card,
+            neighbor: None,
+            questions: Vec::new(alloc),
+            full: false,
+        }
+    }
+
+    fn keep(&mut self, question: Question)
+        ensures told { self.new.full ≡ false → self.old.full ≡ false }
+        ensures question { self.new.full ≡ false
+            → self.new.questions.items ≡ self.old.questions.items ++ question ∷ [] }
+        ensures same { self.new ≡ record self.old {
+          questions = self.new.questions;
+          full = self.new.full;
+        } }
+    {
+        if self.questions.push(question).is_err() {
+            self.full = true;
+        }
+    }
+}
+
+impl RouteSystem for MemorySystem {
+    ghost tells = { λ m. m.full ≡ false };
+
+    ghost questions = { λ m. m.questions.items };
+
+    fn time(&mut self) -> Option<u64>
+        ensures answer { result ≡ self.old.time }
+        ensures same { self.new ≡ record self.old {
+          questions = self.new.questions;
+          full = self.new.full;
+        } }
+        ensures told { self.new.full ≡ false → self.old.full ≡ false }
+        ensures question { self.new.full ≡ false → self.new.questions.items
+            ≡ self.old.questions.items ++ question.Time result ∷ [] }
+    {
+        let time = self.time;
+        self.keep(Question::Time(time));
+        time
+    }
+
+    fn source_to(&mut self, host: [u8; 4]) -> Option<[u8; 4]>
+        ensures answer { result ≡ self.old.source }
+        ensures same { self.new ≡ record self.old {
+          questions = self.new.questions;
+          full = self.new.full;
+        } }
+        ensures told { self.new.full ≡ false → self.old.full ≡ false }
+        ensures question { self.new.full ≡ false → self.new.questions.items
+            ≡ self.old.questions.items ++ question.Source host result ∷ [] }
+    {
+        let source = self.source;
+        self.keep(Question::Source(host, source));
+        source
+    }
+
+    fn card_to(&mut self, address: [u8; 4], host: [u8; 4]) -> CardName
+        ensures answer { result ≡ self.old.card }
+        ensures same { self.new ≡ record self.old {
+          questions = self.new.questions;
+          full = self.new.full;
+        } }
+        ensures told { self.new.full ≡ false → self.old.full ≡ false }
+        ensures question { self.new.full ≡ false → self.new.questions.items
+            ≡ self.old.questions.items ++ question.Card address host result ∷ [] }
+    {
+        let card = self.card;
+        self.keep(Question::Card(address, host, card));
+        self.card
+    }
+
+    fn neighbor_to(&mut self, host: [u8; 4], address: [u8; 4]) -> Option<[u8; 4]>
+        ensures answer { result ≡ self.old.neighbor }
+        ensures same { self.new ≡ record self.old {
+          questions = self.new.questions;
+          full = self.new.full;
+        } }
+        ensures told { self.new.full ≡ false → self.old.full ≡ false }
+        ensures question { self.new.full ≡ false → self.new.questions.items
+            ≡ self.old.questions.items ++ question.Neighbor host address result ∷ [] }
+    {
+        let neighbor = self.neighbor;
+        self.keep(Question::Neighbor(host, address, neighbor));
+        neighbor
+    }
+}

@@ -1,0 +1,54 @@
+ghost use Rattle.std.specs.Prelude.{◌≡◌, List, ◌∷◌, ◌++◌, []};
+ghost use Rattle.packet_paths.specs.declared.system.Question.{Question as QuestionOf};
+ghost use Rattle.packet_paths.specs.declared.system.Question.TheVariants as question;
+
+use network_tables::CardName;
+
+/// What the system was asked, and its answer.
+#[derive(Clone, Copy, Debug)]
+pub enum Question {
+    /// What time it is.
+    Time(Option<u64>),
+    /// Which address a packet to this host would come from.
+    Source([u8; 4], Option<[u8; 4]>),
+    /// Which card has this address, from which packets go to this host.
+    Card([u8; 4], [u8; 4], CardName),
+    /// Who takes a packet to this host first that comes from this address.
+    Neighbor([u8; 4], [u8; 4], Option<[u8; 4]>),
+}
+
+/// What the system knows of its routes.
+///
+/// It *tells* where contracts can see what it was asked: then it told before each question, too.
+pub trait RouteSystem {
+    /// Contracts can see the questions.
+    ghost tells: { Self → Type 0 };
+
+    /// The questions, the first first.
+    ghost questions: { Self → List QuestionOf };
+
+    /// The time by the machine's clock, in nanoseconds from some start; none where it cannot be
+    /// read.
+    fn time(&mut self) -> Option<u64>
+        ensures told { tells self.new → tells self.old }
+        ensures question { tells self.new
+            → questions self.new ≡ questions self.old ++ question.Time result ∷ [] };
+
+    /// The address that a packet to this host would come from, where a route leads there.
+    fn source_to(&mut self, host: [u8; 4]) -> Option<[u8; 4]>
+        ensures told { tells self.new → tells self.old }
+        ensures question { tells self.new
+            → questions self.new ≡ questions self.old ++ question.Source host result ∷ [] };
+
+    /// The card of an address of this machine that packets to a host come from.
+    fn card_to(&mut self, address: [u8; 4], host: [u8; 4]) -> CardName
+        ensures told { tells self.new → tells self.old }
+        ensures question { tells self.new
+            → questions self.new ≡ questions self.old ++ question.Card address host result ∷ [] };
+
+    /// Who takes the packets from this address to a host first, where that is another machine.
+    fn neighbor_to(&mut self, host: [u8; 4], address: [u8; 4]) -> Option<[u8; 4]>
+        ensures told { tells self.new → tells self.old }
+        ensures question { tells self.new → questions self.new
+            ≡ questions self.old ++ question.Neighbor host address result ∷ [] };
+}
