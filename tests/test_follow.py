@@ -11,6 +11,7 @@ from machine import by_clock, in_time, took
 from program import CID, PROGRAM, run
 from restarts import PATIENCE, head, moments, sent_by, universe_of, wait_until
 from test_restart import SHOW, ByTheScript, RestartTest
+from tooling import open_files
 from wire import OPTIONS, SLOT_1, TERMINATED, address_of, receiving
 
 BACKUP = CID[:-1] + "2"
@@ -150,6 +151,18 @@ class Leads(FollowTest):
         self.write(record, "75 tick")
         backup.light(2)
         self.assertEqual({75}, {each.moment for each in self.assertStream(backup)})
+
+    def test_head_that_comes(self):
+        """The head of its record may come while the backup begins."""
+        record = self.folder / "main.play"
+        record.touch()
+        words = ["--follow", record, "--patience", LONG, "--priority", str(PRIORITY)]
+        backup = self.night(*words, cid=BACKUP)
+        process = backup.begin(resume=False)
+        wait_until(lambda: record in open_files(process.pid), "the record is read")
+        time.sleep(0.1)
+        record.write_bytes(head(SHOW) + b"0 tick\n")
+        backup.tells(LEADS)
 
     def test_cut_line(self):
         """A line waits for its LF, and may be cut off by a main that is taken up."""

@@ -459,6 +459,10 @@ class Live(LiveTest):
         outcome = run(*self.words("--record", record), stdin=b"go\n")
         self.assertEqual(Outcome(3, b"", b"show line 1: BadNumber\n"), outcome)
         self.assertFalse(record.exists())
+        # An empty file that was there stays.
+        record.touch()
+        outcome = run(*self.words("--record", record), stdin=b"go\n")
+        self.assertEqual((3, True), (outcome.status, record.exists()))
         self.show.write_bytes(text("PATCH 1 1<513@FL"))
         outcome = run(*self.words("--base", "63999"), stdin=b"go\n")
         self.assertEqual(Outcome(2, b"", b"base: Universe\n"), outcome)
