@@ -4,6 +4,7 @@ use Rattle.std.specs.Prelude.{Option, Some, None, if◌then◌else◌}
 use Rattle.std.specs.Int.{from_be_bytes, to_le_bytes, w32}
 use Rattle.std.specs.Char.{is_ascii_graphic}
 use Rattle.arrayvec.specs.declared.array_string.ArrayString.{ArrayString}
+use Rattle.ascii_text.specs.Forms.{is_run}
 use Rattle.network_tables.specs.Fields.{field, hex_number}
 use Rattle.network_tables.specs.declared.route.Route.{Route}
 

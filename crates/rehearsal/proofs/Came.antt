@@ -3,29 +3,15 @@
 -- deliveries of each console.
 use Rattle.std.proofs.Common.{◌≡◌, ℕ, ◌<◌, ◌≤◌, Bool, true, false, refl, arith, List, [], ◌∷◌}
 use Rattle.std.proofs.Common.{length, Option, Some, None, ap, sym, subst, inl, inr, ◌∙◌, map}
-use Rattle.std.proofs.Common.{get_or}
-use Rattle.std.specs.Prelude.{if◌then◌else◌, is_some, slice_get, nat_eq, slice_range, filter}
-use Rattle.std.specs.Prelude.{Contains, IsTrue, find}
+use Rattle.std.proofs.Common.{get_or, if◌then◌else◌, is_some, slice_get, nat_eq, slice_range}
+use Rattle.std.proofs.Common.{filter, Contains, IsTrue, find}
 use Rattle.std.specs.List.{fold}
-use Rattle.std.specs.Option.{option_map_or, option_map}
-use Rattle.std.proofs.lemmas.Bool.Decides.{nat_tests}
 use Rattle.std.proofs.lemmas.Bool.{eqb-true, cond_both}
-use Rattle.std.proofs.lemmas.Option.{slice_get-get_or, same_Some}
-use Rattle.sacn_packet.specs.Reading.{front_packet}
-use Rattle.sacn_source.specs.Stream.{Packet, last_packet}
-use Rattle.sacn_receiver.specs.declared.answer.Ignored.{Ignored}
-use Rattle.sacn_receiver.specs.Source as source
+use Rattle.sacn_source.specs.Stream.{last_packet}
 use Rattle.sacn_receiver.specs.Taking.{accepted_entry, ignore_reason, answer, history_after}
-use Rattle.rehearsal.specs.declared.event.Event.{Event}
-use Rattle.rehearsal.specs.declared.event.What.TheVariants.{Deliver, Stray}
-use Rattle.rehearsal.specs.World.{World, universe_at, console_at, no_console, IsWorld}
-use Rattle.rehearsal.specs.Happened.{packets_sent, datagram_to, hears, accepted_by}
+use Rattle.rehearsal.specs.Happened.{hears}
 use Rattle.rehearsal.specs.Replies.{last_event_moment, lack_skip, skip_of, done_one, events_done}
-use Rattle.std.proofs.lemmas.Cmp.{nat_list_eq_equiv}
 use Rattle.std.proofs.lemmas.List.{get_or-map, length-map}
-use Rattle.std.proofs.lemmas.List.Elements.{All-cons, All-map}
-use Rattle.console.specs.Streams.{Production}
-use Rattle.sacn_source.specs.Identity.{Identity}
 use Rattle.sacn_receiver.specs.Arrivals.{Arrival, heard_all, last_arrival, NeverFall, not_heard}
 use Rattle.sacn_receiver.specs.Arrivals.{is_heard, is_from, HeardAreFrom, packets_heard}
 use Rattle.sacn_receiver.specs.Laws.{accepted_packets}
@@ -33,11 +19,15 @@ use Rattle.sacn_receiver.specs.Source.{Entry, same_cid, is_accepted}
 use Rattle.sacn_receiver.proofs.Members.{by_test, In, In_mapped, in_from_get_or}
 use Rattle.sacn_receiver.proofs.Independent.{heard_accepted, records_independent}
 use Rattle.sacn_receiver.proofs.Independent.{answers_independent}
-use Rattle.rehearsal.specs.Datagrams.{packet_bytes}
-use Rattle.rehearsal.specs.declared.event.What.{What}
 use Rattle.rehearsal.specs.Delivery.{Delivery, delivered_more, delivered_by, deliveries}
 use Rattle.rehearsal.specs.Laws.{CidsDiffer, IsAlone, IsUnheard, NoStray, handed_from}
 use Rattle.rehearsal.specs.Laws.{accepted_from, ConsolesAreIndependent}
+use Rattle.sacn_receiver.specs.Source as source
+use Rattle.rehearsal.proofs.Terms.{option_map_or, option_map, nat_tests, slice_get-get_or}
+use Rattle.rehearsal.proofs.Terms.{same_Some, front_packet, Packet, Ignored, Event, Deliver, Stray}
+use Rattle.rehearsal.proofs.Terms.{World, universe_at, console_at, no_console, IsWorld}
+use Rattle.rehearsal.proofs.Terms.{packets_sent, datagram_to, accepted_by, nat_list_eq_equiv}
+use Rattle.rehearsal.proofs.Terms.{All-cons, All-map, Production, Identity, packet_bytes, What}
 use Rattle.rehearsal.proofs.Wire.{IsSendable, entry, cid_is, entry_is, heard_here, unheard_there}
 use Rattle.rehearsal.proofs.Wire.{unheard_left, sent_is, sent_stays}
 
@@ -144,8 +134,7 @@ later_too s t (m ∷ ms) l h = (omega (arith, h.0), h.1)
 pub own_in_time : (i t : ℕ) (cs : List Coming) → AreInTime t (map (λ c. c.1.moment) cs)
     → IsInTime t (own i cs)
 own_in_time i t [] h = tt
-own_in_time i t (c ∷ cs) h =
-    cond_both (nat_eq c.0 i) (c.1 ∷ own i cs) (own i cs) (IsInTime t)
+own_in_time i t (c ∷ cs) h = cond_both (nat_eq c.0 i) (c.1 ∷ own i cs) (own i cs) (IsInTime t)
     (λ _. (h.0, own_in_time i c.1.moment cs h.1))
     (λ _. later_too c.1.moment t _ h.0 (own_in_time i c.1.moment cs h.1))
 
@@ -201,12 +190,10 @@ module _ (w : World) (v : IsWorld w) (r : ℕ) (e : Event) (past : List Event)
   unheard bytes s false h = refl
 
   -- or a packet of its universe, from console j
-  packet : (j k : ℕ) (p : Packet) → j < length w.consoles
-      → slice_get (ours w r j past) k ≡ Some p
+  packet : (j k : ℕ) (p : Packet) → j < length w.consoles → slice_get (ours w r j past) k ≡ Some p
       → Came w r e.moment (λ i. ours w r i (e ∷ past))
       (λ i. if nat_eq j i then delivered_more k e.moment (slice_get (ours w r i past) k)
-      (deliveries w r i past) else deliveries w r i past)
-      (hears (universe_at w r) e.moment (Some
+      (deliveries w r i past) else deliveries w r i past) (hears (universe_at w r) e.moment (Some
       (packet_bytes (source_of w j) (universe_at w r) k p)) (accepted_by w r past))
       (λ i. hears (universe_at w r) e.moment (if nat_eq j i then Some
       (packet_bytes (source_of w j) (universe_at w r) k p) else None) (accepted_from w r i past))
@@ -228,8 +215,7 @@ module _ (w : World) (v : IsWorld w) (r : ℕ) (e : Event) (past : List Event)
             (λ q. rw q (m.ds_are i));
         by_is = ap (λ h. history_after 4 (universe_at w r) h e.moment (arrival w r j d).datagram)
             m.by_is;
-        from_is = λ i. by_test (nat_eq j i)
-            (λ q. rw (q, here i q, eqb-true j i q)
+        from_is = λ i. by_test (nat_eq j i) (λ q. rw (q, here i q, eqb-true j i q)
             (ap (λ h. history_after 4 (universe_at w r) h e.moment
             (arrival w r i d).datagram) (m.from_is i))) (λ q. rw q (m.from_is i));
       }
@@ -269,17 +255,14 @@ came w v r [] run n = record {
   by_is = refl;
   from_is = λ i. refl;
 }
-came w v r (e ∷ past) run n =
-    let s = timely w past e run.0 in
+came w v r (e ∷ past) run n = let s = timely w past e run.0 in
     leaves w v r e past s.after (came w v r past run.1 n.1) e.what s.there n.0
 
 -- what is accepted came
 pub In_accepted : (e : Entry) (es : List Entry) → In e (accepted_packets 4 es) → In e es
 In_accepted e [] i = i
-In_accepted e (x ∷ es) i =
-    cond_both (is_accepted 4 (accepted_packets 4 es) x.moment x.cid x.number)
-    (x ∷ accepted_packets 4 es)
-    (accepted_packets 4 es) (λ l. In e l → In e (x ∷ es))
+In_accepted e (x ∷ es) i = cond_both (is_accepted 4 (accepted_packets 4 es) x.moment x.cid x.number)
+    (x ∷ accepted_packets 4 es) (accepted_packets 4 es) (λ l. In e l → In e (x ∷ es))
     (λ _ j. elim j [ inl s ↦ inl s | inr k ↦ inr (In_accepted e es k) ])
     (λ _ j. inr (In_accepted e es j)) i
 
@@ -345,11 +328,9 @@ module _ (w : World) (v : IsWorld w) (r : ℕ) (past : List Event) (run : IsRun 
   pub from_console : (e : Entry) → In e (accepted_by w r past)
       → (j : ℕ) × (j < length w.consoles) × ((source_of w j).cid ≡ e.cid)
   from_console e i =
-      let m = In_mapped entry_at e n.cs (In_accepted e (map entry_at n.cs) (rw (
-        n.by_is,
-        accepted_are (universe_at w r) (λ (c : Coming). arrival w r c.0 c.1) entry_at
-            (last_event_moment past) n.cs n.in_time (λ c m. is_heard_as c.0 c.1 (n.were_sent c m)),
-      ) at i)) in
+      let all = accepted_are (universe_at w r) (λ (c : Coming). arrival w r c.0 c.1) entry_at
+      (last_event_moment past) n.cs n.in_time (λ c m. is_heard_as c.0 c.1 (n.were_sent c m)) in
+      let m = In_mapped entry_at e n.cs (In_accepted e _ (rw (n.by_is, all) at i)) in
       (m.0.0, (n.were_sent m.0 m.1).0, ap (λ (x : Entry). x.cid) (sym m.2))
 
   pub from_alone : (i : ℕ) (e : Entry) → In e (accepted_from w r i past)
@@ -363,8 +344,7 @@ module _ (w : World) (v : IsWorld w) (r : ℕ) (past : List Event) (run : IsRun 
       → ((c : Coming) → In c cs → p (arrival w r c.0 c.1) ≡ nat_eq c.0 i)
       → filter p (arrivals w r cs) ≡ map (arrival w r i) (own i cs)
   own_arrivals p i [] h = refl
-  own_arrivals p i (c ∷ cs) h =
-      let ih = own_arrivals p i cs (λ d m. h d (inr m)) in
+  own_arrivals p i (c ∷ cs) h = let ih = own_arrivals p i cs (λ d m. h d (inr m)) in
       by_test (nat_eq c.0 i) (λ q. rw (h c (inl refl), q, ih, eqb-true c.0 i q))
       (λ q. rw (h c (inl refl), q) ih)
 
@@ -441,8 +421,7 @@ module _ (w : World) (v : IsWorld w) (r : ℕ) (past : List Event) (run : IsRun 
         → (front_packet bytes).fields.cid ≡ (source_of w i).cid
         → answer 4 (universe_at w r) (accepted_by w r past) t bytes
         ≡ answer 4 (universe_at w r) (accepted_from w r i past) t bytes
-    same_answer i t bytes l time cid =
-        let a : Arrival = record { moment = t; datagram = bytes } in
+    same_answer i t bytes l time cid = let a : Arrival = record { moment = t; datagram = bytes } in
         ap (λ h. answer 4 (universe_at w r) h t bytes) n.by_is
         ∙ answers_independent 4 (universe_at w r) cids a (arrivals w r n.cs) (simp length-map few)
         (All-cons IsFromThese a (arrivals w r n.cs) (is_from_these i a l cid) from_these)
@@ -451,8 +430,7 @@ module _ (w : World) (v : IsWorld w) (r : ℕ) (past : List Event) (run : IsRun 
 pub consoles_independent : ConsolesAreIndependent
 consoles_independent w events r i x k t bytes v apart few l time no_stray is =
     same_answer w v r (events_done w events) (done_runs w events) no_stray apart few i t
-    bytes l time
-    (of_packet (slice_get (packets_sent w i x (events_done w events)) k) refl is)
+    bytes l time (of_packet (slice_get (packets_sent w i x (events_done w events)) k) refl is)
   where
     of_packet : (o : Option Packet) → slice_get (packets_sent w i x (events_done w events)) k ≡ o
         → option_map (packet_bytes (source_of w i) x k) o ≡ Some bytes

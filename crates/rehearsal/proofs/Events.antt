@@ -1,58 +1,38 @@
 -- The consoles and receivers of a rehearsal: as they are opened, and after each event.
-use Rattle.console.specs.Streams.{Production}
 use Rattle.std.proofs.Common.{◌≡◌, ℕ, zero, suc, ◌<◌, true, refl, ap, sym, subst, ◌∙◌, List, []}
 use Rattle.std.proofs.Common.{◌∷◌, length, set, get_or, Option, Some, None, Result, Ok, Err, inl}
 use Rattle.std.proofs.Common.{inr, arith, ◌≤◌, ◌^◌, false, ◌+◌, ◌++◌, length-append, take}
-use Rattle.std.specs.Prelude.{if◌then◌else◌, not, is_some, slice_get, nat_eq, nat_lt, IfOk, OnOk}
-use Rattle.std.specs.Prelude.{OnErr, map}
-use Rattle.std.specs.Option.{option_map, option_map_or}
-use Rattle.std.specs.Result.{result_err}
+use Rattle.std.proofs.Common.{if◌then◌else◌, not, is_some, slice_get, nat_eq, nat_lt, IfOk, OnOk}
+use Rattle.std.proofs.Common.{OnErr, map}
 use Rattle.std.proofs.lemmas.Bool.{eq-eqb, le-ltb, lt-ltb, ne_eqb, lt-leb, cases_lt}
-use Rattle.std.proofs.lemmas.Option.{slice_get_within, slice_get_read, slice_get_cases}
-use Rattle.std.proofs.lemmas.Option.{get_or_from_slice_get, slice_get-get_or, same_Some}
-use Rattle.std.proofs.Math.ListN.{length-set}
-use Rattle.desk.specs.declared.answer.Refused.{Refused}
-use Rattle.desk.specs.Played.{Call, Act, refusal, outcome}
-use Rattle.rehearsal.specs.declared.event.Event.{Event}
-use Rattle.rehearsal.specs.declared.reply.Skip.{Skip}
-use Rattle.rehearsal.specs.World.{World, console_at, universe_at, no_console, IsIdentity}
-use Rattle.rehearsal.specs.Happened.{console_call, unless_refused, acts, bytes_of, datagram}
-use Rattle.rehearsal.specs.Happened.{packets_sent}
-use Rattle.rehearsal.specs.Happened.{datagram_to, accepted_by}
-use Rattle.sacn_source.specs.Stream.{Packet}
+use Rattle.std.proofs.lemmas.Option.{slice_get_cases}
 use Rattle.sacn_receiver.specs.Kept.{ReceiverState, StandsFor}
-use Rattle.rehearsal.specs.declared.event.What.TheVariants.{Deliver, Order, Tick, Stray, Show}
+use Rattle.rehearsal.specs.declared.event.What.TheVariants.{Tick}
 use Rattle.rehearsal.specs.declared.reply.Skip.TheVariants.{NotSent}
-use Rattle.rehearsal.specs.Datagrams.{packet_bytes}
 use Rattle.rehearsal.specs.Replies.{no_console_at, lack_skip, last_event_moment, no_receiver_at}
 use Rattle.rehearsal.specs.Replies.{taken_reply, datagram_reply, skip_of, event_reply, done_one}
-use Rattle.rehearsal.specs.Replies.{events_done}
-use Rattle.rehearsal.specs.Replies.{reply_to}
-use Rattle.rehearsal.specs.Stands.{AllHear, ConsolesStand, AllTell, unless_skipped, AllBy, AllAre}
-use Rattle.rehearsal.specs.Stands.{IsStep, is_skip, cast, HasOpened, AreListening, world_of}
-use Rattle.rehearsal.specs.Stands.{SendersAreSources}
-use Rattle.rehearsal.specs.Stands.{HasReplayed}
-use Rattle.sacn_packet.specs.Reading.{front_packet}
+use Rattle.rehearsal.specs.Replies.{events_done, reply_to}
+use Rattle.rehearsal.specs.Stands.{unless_skipped, AllBy, IsStep, is_skip, AreListening}
 use Rattle.sacn_receiver.specs.declared.answer.Taken.{Taken}
-use Rattle.sacn_receiver.specs.declared.answer.Ignored.{Ignored}
-use Rattle.sacn_receiver.specs.Source as source
 use Rattle.sacn_receiver.specs.Taking.{accepted_entry, ignore_reason, taken_of, answer}
-use Rattle.rehearsal.specs.declared.reply.Reply.TheVariants as reply
-use Rattle.std.proofs.lemmas.Bool.Decides.{nat_tests}
 use Rattle.std.proofs.lemmas.List.{get_or_append_left, get_or_push, length-map, get_or-map}
-use Rattle.rehearsal.proofs.Wire.{source_of, played_in}
-use Rattle.rehearsal.proofs.Came.{IsRun, last_accepted, done_runs}
-use Rattle.rehearsal.specs.declared.event.What.{What}
-use Rattle.rehearsal.specs.declared.reply.Reply.{Reply}
-use Rattle.show.specs.Tables.{Tables}
-use Rattle.rehearsal.specs.declared.setup.Setup.{Setup}
-use Rattle.fade.specs.Level.{Start}
-use Rattle.sacn_source.specs.Identity.{Identity}
 use Rattle.sacn_source.specs.Kept.{Lane}
 use Rattle.sacn_source.specs.Stands.{StandsAt, lane_of}
-use Rattle.rehearsal.specs.declared.stage.Stage.{Stage}
-use Rattle.rehearsal.specs.StageStands.{StageStands, LinkTells}
-use Rattle.std.proofs.lemmas.Grind.{common_steps}
+use Rattle.sacn_receiver.specs.Source as source
+use Rattle.rehearsal.specs.declared.reply.Reply.TheVariants as reply
+use Rattle.rehearsal.proofs.Terms.{Production, option_map, option_map_or, result_err}
+use Rattle.rehearsal.proofs.Terms.{slice_get_within, slice_get_read, get_or_from_slice_get}
+use Rattle.rehearsal.proofs.Terms.{slice_get-get_or, same_Some, length-set, Refused, Call, Act}
+use Rattle.rehearsal.proofs.Terms.{refusal, outcome, Event, Skip, World, console_at, universe_at}
+use Rattle.rehearsal.proofs.Terms.{no_console, IsIdentity, console_call, unless_refused, acts}
+use Rattle.rehearsal.proofs.Terms.{bytes_of, datagram, packets_sent, datagram_to, accepted_by}
+use Rattle.rehearsal.proofs.Terms.{Packet, Deliver, Order, Stray, Show, packet_bytes, AllHear}
+use Rattle.rehearsal.proofs.Terms.{ConsolesStand, AllTell, AllAre, cast, HasOpened, world_of}
+use Rattle.rehearsal.proofs.Terms.{SendersAreSources, HasReplayed, front_packet, Ignored, nat_tests}
+use Rattle.rehearsal.proofs.Terms.{What, Reply, Tables, Setup, Start, Identity, Stage, StageStands}
+use Rattle.rehearsal.proofs.Terms.{LinkTells, common_steps}
+use Rattle.rehearsal.proofs.Wire.{source_of, played_in}
+use Rattle.rehearsal.proofs.Came.{last_accepted, done_runs}
 
 -- ---- one event at one of the consoles
 
@@ -80,8 +60,7 @@ all_push P (z ∷ xs) x new old (suc j) y e =
 -- an element by a number of another width
 pub at_number : {A : Type 0} (xs : List A) (i n : ℕ) (x : A) → i ≡ n → i < length xs
     → x ≡ get_or xs i x → slice_get xs n ≡ Some x
-at_number xs i n x same l is =
-    rw (← same) (slice_get_read xs (length xs) i x refl l is)
+at_number xs i n x same l is = rw (← same) (slice_get_read xs (length xs) i x refl l is)
 
 pub tell_set : {S : Type 0} (tells : S → Type 0) (stages : List S) (k : ℕ) (is : S) → tells is
     → AllTell tells stages → AllTell tells (set stages k is)
@@ -90,8 +69,7 @@ tell_set tells stages k is new all = all_set (λ _. tells) stages k is new (λ j
 -- no console has this number
 pub absent : {S : Type 0} (stages : List S) (k i : ℕ) → i ≡ k → length stages ≤ i → (w : World)
     → length stages ≡ length w.consoles → nat_lt k (length w.consoles) ≡ false
-absent stages k i is least w same =
-    le-ltb k (length w.consoles) (omega (arith, same, is, least))
+absent stages k i is least w same = le-ltb k (length w.consoles) (omega (arith, same, is, least))
 
 pub err_of : {A : Type 0} (o : Option Refused) (x : A) → result_err (outcome o x) ≡ o
 err_of None x = refl
@@ -155,8 +133,7 @@ is_sent f ps k = grind (arith, nat_tests, (slice_get_cases ps k).1)
 module _ {S : Type 0} (st : S → Production → List Act → Type 0) (tells : S → Type 0)
     (stages : List S) (receivers : List ReceiverState) (console receiver universe n : ℕ) (was : S)
     (at : slice_get stages console ≡ Some was) (few : receiver < length receivers)
-    (o : Option (List ℕ))
-    (found : (p : Production) (h : List Act) → st was p h → tells was
+    (o : Option (List ℕ)) (found : (p : Production) (h : List Act) → st was p h → tells was
     → o ≡ bytes_of p h universe n)
     (w : World) (past : List Event) (all : ConsolesStand st stages w past)
     (tell : AllTell tells stages) (hear : AllHear receivers w past) where
@@ -168,16 +145,12 @@ module _ {S : Type 0} (st : S → Production → List Act → Type 0) (tells : S
       let there : nat_lt receiver (length w.receivers) ≡ true =
       lt-ltb receiver (length w.receivers) (omega (arith, few, hear.each)) in
       let is = found (console_at w console) (acts w console past) (all.stand console was at)
-      (tell console was at) in (
+      (tell console was at) in
+      let sent = is_sent (packet_bytes (console_at w console).source universe n)
+      (packets_sent w console universe past) n in (
         there,
         is,
-        rw (
-          here all console was at,
-          there,
-          is_sent (packet_bytes (console_at w console).source universe n)
-              (packets_sent w console universe past) n,
-          is,
-        ) refl,
+        rw (here all console was at, there, sent, is) refl,
       )
 
 -- what holds of any value
@@ -186,12 +159,12 @@ always (Ok a) P h = h a
 always (Err e) P h = tt
 
 -- an event that is no call leaves the consoles
-pub stand_same : {S : Type 0} (st : S → Production → List Act → Type 0) (stages : List S)
-    (w : World) (past : List Event) (o : Option Skip) (e : Event)
+pub stand_same : {S : Type 0} {st : S → Production → List Act → Type 0} {stages : List S}
+    {w : World} {past : List Event} (o : Option Skip) (e : Event)
     → ((j : ℕ) → console_call j e.what ≡ None) → ConsolesStand st stages w past
     → ConsolesStand st stages w (unless_skipped o e past)
-stand_same st stages w past (Some x) e quiet all = all
-stand_same st stages w past None e quiet all = record {
+stand_same (Some x) e quiet all = all
+stand_same None e quiet all = record {
   each = all.each;
   stand = λ i s g. rw (quiet i) (all.stand i s g);
 }
@@ -244,21 +217,15 @@ module _ {receivers : List ReceiverState} {w : World} {past : List Event}
       took (Some i) ok un = rw un stood
 
 -- an event that hands nothing over leaves the receivers
-pub hear_same : (receivers : List ReceiverState) (w : World) (past : List Event) (o : Option Skip)
+pub hear_same : {receivers : List ReceiverState} {w : World} {past : List Event} (o : Option Skip)
     (e : Event) → ((r : ℕ) → datagram_to w r past e.what ≡ None) → AllHear receivers w past
     → AllHear receivers w (unless_skipped o e past)
-hear_same receivers w past (Some x) e quiet all = all
-hear_same receivers w past None e quiet all = record {
+hear_same (Some x) e quiet all = all
+hear_same None e quiet all = record {
   each = all.each;
   universes = all.universes;
   stand = λ r k g. rw (quiet r) (all.stand r k g);
 }
-
--- the receivers are not ahead of the last event
-pub all_by : (receivers : List ReceiverState) (w : World) (past : List Event) (t : ℕ) → IsRun w past
-    → last_event_moment past ≤ t → AllHear receivers w past → AllBy receivers t
-all_by receivers w past t run time all r k g =
-    omega (arith, (all.stand r k g).latest_is, last_accepted w r past run, time)
 
 -- ---- one event
 
@@ -291,11 +258,9 @@ module _ {S : Type 0} {st : S → Production → List Act → Type 0} {tells : S
 
       -- one that happens
       pub step_done : (r : Reply) (was last : ℕ) → last_event_moment past ≤ e.moment
-          → e.moment < 2 ^ 48
-          → was ≡ last_event_moment past
+          → e.moment < 2 ^ 48 → was ≡ last_event_moment past
           → r ≡ option_map_or reply.Skipped (lack_skip w past e.what)
-          (event_reply w past e.moment e.what)
-          → last ≡ (if is_skip r then was else e.moment)
+          (event_reply w past e.moment e.what) → last ≡ (if is_skip r then was else e.moment)
           → ConsolesStand st stages w (unless_skipped (lack_skip w past e.what) e past)
           → AllTell tells stages
           → AllHear receivers w (unless_skipped (lack_skip w past e.what) e past)
@@ -393,13 +358,13 @@ module _ {S : Type 0} {st : S → Production → List Act → Type 0} {tells : S
             ]);
       }
 
+  -- the receivers are not ahead of the last event
   pub early : {stages : List S} {receivers : List ReceiverState} {last : ℕ} {rs : List Reply}
-      {w : World}
-      {es : List Event} {i : ℕ} → HasReplayed st tells stages receivers last rs w es i
+      {w : World} {es : List Event} {i : ℕ} → HasReplayed st tells stages receivers last rs w es i
       → AllBy receivers last
-  early {receivers = receivers} {last = last} {w = w} {es = es} {i = i} all =
-      all_by receivers w (events_done w (take i es)) last (done_runs w (take i es))
-      (omega (arith, all.last_is)) all.are.hear
+  early {w = w} {es = es} {i = i} all r k g =
+      let by = last_accepted w r (events_done w (take i es)) (done_runs w (take i es)) in
+      omega (arith, (all.are.hear.stand r k g).latest_is, by, all.last_is)
 
 -- ---- whoever sends for a console that was opened is a source
 
@@ -422,6 +387,5 @@ sources {F} fs stages shows setups opened = λ i d within universe played.
     -- a lane that was opened holds a packet
     lane_source : (who : Identity) (lane : Option Lane) → StandsAt who lane [] 0 → IsIdentity who
     lane_source who None stands = absurd stands
-    lane_source who (Some lane) stands =
-        let packet = stands.packet in
+    lane_source who (Some lane) stands = let packet = stands.packet in
         source_of who lane.universe packet.0 packet.1 lane.packet _ packet.2

@@ -1,3 +1,4 @@
+pub mod Terms
 pub mod Wire
 pub mod Came
 pub mod Shown

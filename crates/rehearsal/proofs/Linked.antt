@@ -2,52 +2,43 @@
 use Rattle.std.proofs.Common.{◌≡◌, ℕ, zero, suc, ◌+◌, ◌-◌, ◌≤◌, ap, sym, ◌∙◌, refl, List, [], ◌∷◌}
 use Rattle.std.proofs.Common.{◌++◌, length, length-append, arith, take, ◌<◌, subst, true, Option}
 use Rattle.std.proofs.Common.{Some, None, Bool, false, map, get_or, append-nil, Result, Ok, Err}
-use Rattle.std.specs.Prelude.{slice_get, is_some, if◌then◌else◌, nat_eq, IfSome, find, ◌==◌}
-use Rattle.std.specs.Prelude.{slice_set, IfOk, OnErr, OnOk, MatchResult}
-use Rattle.std.specs.Option.{option_map, option_to_list, option_map_or, option_or}
+use Rattle.std.proofs.Common.{slice_get, is_some, if◌then◌else◌, nat_eq, IfSome, find, ◌==◌}
+use Rattle.std.proofs.Common.{slice_set, IfOk, OnErr, OnOk, MatchResult}
+use Rattle.std.specs.Option.{option_to_list}
 use Rattle.std.proofs.lemmas.List.{append_assoc, length-take, take_all, map-append}
-use Rattle.rehearsal.specs.Shelves.{IsRest, gone_of, shelf_packets}
 use Rattle.std.proofs.lemmas.List.Elements.{filter-append}
 use Rattle.std.proofs.lemmas.List.Folds.{list_any_none, find_at, find-set, find_past, find-append}
-use Rattle.std.specs.List.{list_any, AllPairs, position, position_or_len}
+use Rattle.std.specs.List.{list_any, AllPairs, position_or_len}
 use Rattle.std.proofs.lemmas.Bool.{cond_both, eqb-true, ne_eqb, eq-eqb}
 use Rattle.std.proofs.lemmas.List.Kept.{AllPairs-from_increasing}
 use Rattle.devices.specs.Send.{Send}
-use Rattle.desk.specs.Played.{Act, outcome}
 use Rattle.desk.proofs.Universes.{numbers_rise}
 use Rattle.sacn_source.specs.declared.offered.Offered.{Offered}
-use Rattle.sacn_source.specs.Identity.{Identity}
-use Rattle.sacn_source.specs.Stream.{Packet}
-use Rattle.sacn_source.proofs.Streams.{HoldsFull}
 use Rattle.sacn_receiver.proofs.Members.{by_test}
 use Rattle.console.specs.Offering.{AreOffered, OffersDues, none, quiet, sent}
-use Rattle.console.specs.Streams.{Production, Due, due_at, dues_at, tick_at, universes_of}
-use Rattle.console.proofs.Streams as console
-use Rattle.rehearsal.specs.Datagrams.{packet_bytes}
-use Rattle.rehearsal.specs.Happened.{bytes_of, packets_of, stream}
-use Rattle.rehearsal.specs.World.{plays}
+use Rattle.console.specs.Streams.{Due, due_at, dues_at, tick_at}
+use Rattle.rehearsal.specs.Happened.{packets_of}
 use Rattle.rehearsal.specs.Replies.{due_answer}
-use Rattle.rehearsal.proofs.Wire.{bytes_are}
 use Rattle.rehearsal.specs.declared.row.Row.{Row}
 use Rattle.rehearsal.specs.Sends.{row_send, sent_to, packet_run, SendStore, sends_of}
-use Rattle.std.proofs.lemmas.Grind.{common_steps}
 use Rattle.std.proofs.lemmas.List.Quantifiers.{position-Some}
-use Rattle.std.proofs.lemmas.Option.{slice_get-get_or, slice_get_past}
-use Rattle.rehearsal.specs.declared.shelf.Shelf.{Shelf}
-use Rattle.fade.specs.Level.{Start}
-use Rattle.desk.specs.declared.answer.Refused.{Refused}
+use Rattle.std.proofs.lemmas.Option.{slice_get_past}
 use Rattle.desk.specs.declared.answer.Ticked.{Ticked}
 use Rattle.console.specs.Stands.{StandsFor}
-use Rattle.rehearsal.specs.declared.stage.Stage.{Stage}
-use Rattle.rehearsal.specs.StageStands.{StageStands, LinkTells}
+use Rattle.console.proofs.Streams as console
+use Rattle.rehearsal.proofs.Terms.{option_map, option_map_or, option_or, IsRest, gone_of}
+use Rattle.rehearsal.proofs.Terms.{shelf_packets, position, Act, outcome, Identity, Packet}
+use Rattle.rehearsal.proofs.Terms.{HoldsFull, Production, universes_of, packet_bytes, bytes_of}
+use Rattle.rehearsal.proofs.Terms.{stream, plays, common_steps, slice_get-get_or, Shelf, Start}
+use Rattle.rehearsal.proofs.Terms.{Refused, Stage, StageStands, LinkTells}
+use Rattle.rehearsal.proofs.Wire.{bytes_are}
 
 -- ---- all packets but the first ones
 
 -- so many as are kept and gone
 rest_length : (gone : ℕ) (kept all : List (List ℕ)) → IsRest gone kept all
     → length all ≡ gone + length kept
-rest_length gone kept all r =
-    omega (arith, ap length r.parts, length-append r.before kept, r.count)
+rest_length gone kept all r = omega (arith, ap length r.parts, length-append r.before kept, r.count)
 
 -- with one more behind
 pub rest_kept : (last gone : ℕ) (kept all : List (List ℕ)) (packet : List ℕ)
@@ -80,8 +71,7 @@ behind : {A : Type 0} (xs ys : List A) (k : ℕ) → length xs ≤ k
     → slice_get ys (k - length xs) ≡ slice_get (xs ++ ys) k
 behind [] ys k l = grind arith
 behind (x ∷ xs) ys zero l = absurd (omega (arith, l))
-behind (x ∷ xs) ys (suc k) l =
-    let e : suc k - suc (length xs) ≡ k - length xs = omega arith in
+behind (x ∷ xs) ys (suc k) l = let e : suc k - suc (length xs) ≡ k - length xs = omega arith in
     rw e (behind xs ys k (omega (arith, l)))
 
 -- packet k of all
@@ -91,8 +81,7 @@ rest_at gone kept all k r l =
     rw (← r.count, r.parts) (behind r.before kept k (omega (arith, l, r.count)))
 
 -- and where it is among the first of all
-get_taken : {A : Type 0} (xs : List A) (n k : ℕ) → k < n
-    → slice_get (take n xs) k ≡ slice_get xs k
+get_taken : {A : Type 0} (xs : List A) (n k : ℕ) → k < n → slice_get (take n xs) k ≡ slice_get xs k
 get_taken xs zero k l = absurd (omega (arith, l))
 get_taken [] (suc n) k l = refl
 get_taken (x ∷ xs) (suc n) zero l = refl
@@ -110,8 +99,7 @@ numbered_at source u j n (p ∷ ps) (suc k) e = numbered_at source u (j + 1) n p
 numbered_more : (source : Identity) (u j n : ℕ) (ps qs : List Packet) → n ≡ j + length ps
     → packet_run source u j ps ++ packet_run source u n qs ≡ packet_run source u j (ps ++ qs)
 numbered_more source u j n [] qs e = grind arith
-numbered_more source u j n (p ∷ ps) qs e =
-    rw (numbered_more source u (j + 1) n ps qs (omega arith))
+numbered_more source u j n (p ∷ ps) qs e = rw (numbered_more source u (j + 1) n ps qs (omega arith))
 
 -- ---- the sends of a tick
 
@@ -130,8 +118,7 @@ module _ (p : Production) (h : List Act) (m u : ℕ) where
 
   -- universes rise, so none after this one is it again
   none_again : (n : ℕ) (ns : List ℕ) (xs : List Send) → AllPairs (λ x y. x < y) (n ∷ ns)
-      → nat_eq n u ≡ true
-      → sent_to u xs ≡ (if list_any (λ n. nat_eq n u) ns then due u else [])
+      → nat_eq n u ≡ true → sent_to u xs ≡ (if list_any (λ n. nat_eq n u) ns then due u else [])
       → sent_to u xs ≡ []
   none_again n ns xs rise q ih =
       ih ∙ ap (λ b. if b then due u else []) (list_any_none (λ n. nat_eq n u) ns (λ k d l.
@@ -151,14 +138,8 @@ module _ (p : Production) (h : List Act) (m u : ℕ) where
       let ih = sent_due ns (λ i j d a b. rise (suc i) (suc j) d (omega arith) (omega arith)) o in
       let is = bytes_are p.source n (due_at p h m n).place packet x.bytes
       (subst (λ o. IfSome o HoldsFull) c.packet_is (console.due_full p n h m)) c.bytes_are in
-      by_test (nat_eq n u) (λ q. rw (
-        c.universe_is,
-        q,
-        none_again n ns xs rise q ih,
-        ← eqb-true n u q,
-        c.packet_is,
-        is,
-      )) (λ q. rw (c.universe_is, q) ih)
+      by_test (nat_eq n u) (λ q. rw (c.universe_is, q, none_again n ns xs rise q ih)
+      (rw (← eqb-true n u q, c.packet_is, is))) (λ q. rw (c.universe_is, q) ih)
 
 -- so with those of a tick behind, the packets of a universe are its longer stream
 pub stream_ticked : (p : Production) (h : List Act) (m : ℕ) (sends : List Send)
@@ -166,34 +147,27 @@ pub stream_ticked : (p : Production) (h : List Act) (m : ℕ) (sends : List Send
     → packet_run p.source u 0 (packets_of p h u) ++ sent_to u sends
     ≡ packet_run p.source u 0 (packets_of p (tick_at m ∷ h) u)
 stream_ticked p h m sends pairs o u =
-    rw (
-      o.after_is,
-      sent_due p h m u (universes_of p) (AllPairs-from_increasing (universes_of p)
-          (numbers_rise p.show.patch p.base)) o.are_offered,
-    ) (by_test (plays p u)
+    let rise = AllPairs-from_increasing (universes_of p) (numbers_rise p.show.patch p.base) in
+    rw (o.after_is, sent_due p h m u (universes_of p) rise o.are_offered) (by_test (plays p u)
     (λ q. rw q (numbered_more p.source u 0 _ (stream p u h) _ (omega arith)
     ∙ ap (packet_run p.source u 0) (sym (console.stream_ticked p u h m)))) (λ q. rw q))
 
--- no send fails, so the answers are the numbers
-abbrev AreUnfailed : List Send → Type 0
-AreUnfailed [] = Unit {0}
-AreUnfailed (x ∷ xs) = (x.failed ≡ false) × AreUnfailed xs
-
+-- no send of a link fails, so the answers are the numbers
 answers_due : {source : Identity} {ds : List Due} {xs : List Send} {pairs : List (ℕ × Offered)}
-    → AreUnfailed xs → AreOffered source ds xs pairs → pairs ≡ map due_answer ds
-answers_due ok none = refl
-answers_due ok (quiet d ds xs rest e h) = rw (e, answers_due ok h) refl
-answers_due ok (sent d p x ds xs rest c h) = rw (ok.0, c.packet_is, answers_due ok.1 h) refl
-
-unfailed : (rows : List Row) → AreUnfailed (map row_send rows)
-unfailed [] = tt
-unfailed (r ∷ rows) = (refl, unfailed rows)
+    → (rows : List Row) → xs ≡ map row_send rows → AreOffered source ds xs pairs
+    → pairs ≡ map due_answer ds
+answers_due rows all none = refl
+answers_due rows all (quiet d ds xs rest e h) = rw (e, answers_due rows all h) refl
+answers_due [] all (sent d p x ds xs rest c h) = cc
+answers_due (r ∷ rows) all (sent d p x ds xs rest c h) =
+    let one : x ≡ row_send r = cc in let more : xs ≡ map row_send rows = cc in
+    rw (one, c.packet_is, answers_due rows more h) refl
 
 -- and its answers are the numbers of what is due
 answers_ticked : (p : Production) (h : List Act) (m : ℕ) (rows : List Row)
     (pairs : List (ℕ × Offered)) → OffersDues p.source (dues_at p h m) pairs [] (map row_send rows)
     → pairs ≡ map due_answer (dues_at p h m)
-answers_ticked p h m rows pairs o = answers_due (rw o.after_is at (unfailed rows)) o.are_offered
+answers_ticked p h m rows pairs o = answers_due rows (sym o.after_is) o.are_offered
 
 -- before the first tick there is none
 none_at_first : (p : Production) (u n : ℕ)
@@ -304,20 +278,16 @@ module _ {u : ℕ} {was : Option Shelf} {new : Shelf} {shelves after : List Shel
   -- packets that are let go
   pub gone_released : (low : ℕ) → ((k : ℕ) → gone was ≤ k → low ≤ k → new.gone ≤ k)
       → (v k : ℕ) → gone_of shelves v ≤ k → (u ≡ v → low ≤ k) → gone_of after v ≤ k
-  gone_released low less v k =
-      each (λ v b o n. gone o ≤ k → (u ≡ v → low ≤ k) → gone n ≤ k)
+  gone_released low less v k = each (λ v b o n. gone o ≤ k → (u ≡ v → low ≤ k) → gone n ≤ k)
       (λ l h. less k l (h refl)) (λ v o l h. l) v
 
 -- one row more of those that are kept
 pub sent_row : (u : ℕ) (rows : List Row) (row : Row) (kept : List (List ℕ))
-    → (if nat_eq row.universe u
-    then (kept ++ sent_to u (map row_send rows)) ++ row.bytes.items ∷ []
+    → (if nat_eq row.universe u then (kept ++ sent_to u (map row_send rows)) ++ row.bytes.items ∷ []
     else kept ++ sent_to u (map row_send rows))
     ≡ kept ++ sent_to u (map row_send (rows ++ row ∷ []))
-sent_row u rows row kept = rw (
-  map-append row_send rows (row ∷ []),
-  sent_more u (map row_send rows) (row_send row ∷ []),
-) (by_test (nat_eq row.universe u)
+sent_row u rows row kept = let more = map-append row_send rows (row ∷ []) in
+    rw (more, sent_more u (map row_send rows) (row_send row ∷ [])) (by_test (nat_eq row.universe u)
     (λ q. rw q (append_assoc kept _ _)) (λ q. rw (q, append-nil)))
 
 -- ---- a tick of a console with its link
@@ -345,15 +315,13 @@ module _ {F : Type 0} (sf : F → List Start → Type 0) (old new : Stage F) (m 
       → kept.full ≡ false
       → OffersDues p.source (dues_at p h m) a.1 (sends_of old.link) (sends_of kept))
       → OnOk r ((p : Production) (h : List Act) → StandsFor sf p old.console h
-      → StandsFor sf p new.console (tick_at m ∷ h))
-      → OnErr r (new.console ≡ old.console)
+      → StandsFor sf p new.console (tick_at m ∷ h)) → OnErr r (new.console ≡ old.console)
       → OnErr r (kept.full ≡ false → sends_of kept ≡ sends_of old.link)
       → ((p : Production) (h : List Act) → StageStands sf old p h → LinkTells new
       → IfOk r (λ a. a.1 ≡ map due_answer (dues_at p h m)))
       × OnOk r ((p : Production) (h : List Act) → StageStands sf old p h
       → StageStands sf new p (tick_at m ∷ h))
-      × OnErr r ((p : Production) (h : List Act) → StageStands sf old p h
-      → StageStands sf new p h)
+      × OnErr r ((p : Production) (h : List Act) → StageStands sf old p h → StageStands sf new p h)
   leaves (Ok a) offered stands same silent =
       let offers =
       λ (p : Production) (h : List Act) (s : StageStands sf old p h) (t : LinkTells new).

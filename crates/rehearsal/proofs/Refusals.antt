@@ -1,26 +1,17 @@
 -- The checks of a setup.
 use Rattle.std.proofs.Common.{◌≡◌, ℕ, ◌<◌, ◌≤◌, true, refl, List, [], ◌∷◌, length, get_or, arith}
-use Rattle.std.proofs.Common.{Option, Some, None, Ok}
+use Rattle.std.proofs.Common.{Option, Some, None, Ok, nat_le, All}
 use Rattle.std.proofs.lemmas.Bool.{and_parts, ltb-true}
-use Rattle.std.specs.Prelude.{nat_le, All}
-use Rattle.std.specs.List.{list_all}
 use Rattle.std.proofs.lemmas.List.{length-map, get_or-map}
-use Rattle.std.proofs.lemmas.Option.{slice_get-get_or}
 use Rattle.std.proofs.lemmas.List.Sums.{AllPass-from_list_all}
-use Rattle.std.proofs.lemmas.List.Elements.{All-cons}
-use Rattle.std.proofs.lemmas.Grind.{common_steps}
-use Rattle.std.proofs.lemmas.Bool.Decides.{nat_tests}
-use Rattle.show.specs.Tables.{Tables}
 use Rattle.rehearsal_faults.specs.declared.fault.Fault.{Fault}
-use Rattle.rehearsal.specs.declared.setup.Setup.{Setup}
-use Rattle.rehearsal.specs.World.{IsWorld, no_console}
 use Rattle.rehearsal.specs.Refusing.{are_consoles, are_receivers, are_universes, is_new_at}
 use Rattle.rehearsal.specs.Refusing.{AnswersSetup, has_base, has_show, setup_fault, are_within}
 use Rattle.rehearsal.specs.Refusing.{stray_fits}
-use Rattle.rehearsal.specs.declared.event.Event.{Event}
-use Rattle.rehearsal.specs.declared.event.What.{What}
-use Rattle.rehearsal.specs.declared.event.What.TheVariants.{Stray}
-use Rattle.rehearsal.specs.Stands.{SendersAreSources, StrayFits, cast, world_of}
+use Rattle.rehearsal.specs.Stands.{StrayFits}
+use Rattle.rehearsal.proofs.Terms.{list_all, slice_get-get_or, All-cons, common_steps, nat_tests}
+use Rattle.rehearsal.proofs.Terms.{Tables, Setup, IsWorld, no_console, Event, What, Stray}
+use Rattle.rehearsal.proofs.Terms.{SendersAreSources, cast, world_of}
 
 -- a report is answered where there is no fault
 pub no_fault : {X : Type 0} (o : Option Fault) (x : X) → AnswersSetup o (Ok x) → o ≡ None
@@ -32,8 +23,7 @@ no_fault (Some fault) x answer = cc
 numbers : (xs : List ℕ) → are_universes xs ≡ true → All (λ u. (1 ≤ u) × (u ≤ 63999)) xs
 numbers [] a = λ k d l. absurd (omega (arith, l))
 numbers (x ∷ xs) a =
-    All-cons (λ u. (1 ≤ u) × (u ≤ 63999)) x xs
-    (grind (arith, nat_tests), grind (arith, nat_tests))
+    All-cons (λ u. (1 ≤ u) × (u ≤ 63999)) x xs (grind (arith, nat_tests), grind (arith, nat_tests))
     (numbers xs (and_parts (is_new_at x xs) (are_universes xs) a).1)
 
 -- none of the reasons applies
@@ -45,12 +35,7 @@ pub record IsFine (shows : List Tables) (setups : List Setup) (universes : List 
 
 pub fine : (shows : List Tables) (setups : List Setup) (universes : List ℕ)
     → setup_fault shows setups universes ≡ None → IsFine shows setups universes
-fine shows setups universes e = record {
-  consoles = grind (arith, common_steps);
-  receivers = grind (arith, common_steps);
-  shown = grind (arith, common_steps);
-  based = grind (arith, common_steps);
-}
+fine shows setups universes e = grind (arith, common_steps)
 
 pub universes_there : (shows : List Tables) (setups : List Setup) (universes : List ℕ)
     → setup_fault shows setups universes ≡ None → All (λ u. (1 ≤ u) × (u ≤ 63999)) universes
@@ -64,8 +49,7 @@ pub fine_world : (shows : List Tables) (setups : List Setup) (universes strays :
     → IsWorld (world_of shows setups universes strays)
     × (length (world_of shows setups universes strays).consoles ≤ 4)
 fine_world shows setups universes strays none who = (
-  λ i h.
-      let l : i < length setups = omega (arith, h, length-map setups (cast shows)) in
+  λ i h. let l : i < length setups = omega (arith, h, length-map setups (cast shows)) in
       let s : Setup = get_or setups i blank in
       let there : s.show < length shows =
       ltb-true _ (length shows) (AllPass-from_list_all (has_show shows) setups f.shown i blank l) in
@@ -90,6 +74,5 @@ within_one size _ h = tt
 
 pub all_within : (size : ℕ) (events : List Event) → are_within size events ≡ true
     → All (λ e. StrayFits size e.what) events
-all_within size events h = λ k d l.
-    within_one size (get_or events k d).what
+all_within size events h = λ k d l. within_one size (get_or events k d).what
     (AllPass-from_list_all (λ (e : Event). stray_fits size e.what) events h k d l)

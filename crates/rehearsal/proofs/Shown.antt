@@ -2,14 +2,10 @@
 -- show: the headline, the window law and the merge law; and so the laws of the replies.
 use Rattle.std.proofs.Common.{◌≡◌, ℕ, ◌+◌, ◌-◌, ◌%◌, ◌<◌, ◌≤◌, true, false, ◌||◌, ◌⊎◌, refl, ap}
 use Rattle.std.proofs.Common.{arith, sym, inl, inr, ◌∙◌, List, [], ◌∷◌, map, length, Some, None}
-use Rattle.std.proofs.Common.{suc, Bool, not, ◌&&◌, subst, Option, take, get_or}
-use Rattle.std.specs.Prelude.{nat_lt, nat_le, find, if◌then◌else◌, slice_index, slice_get, filter}
-use Rattle.std.specs.Prelude.{IsTrue}
+use Rattle.std.proofs.Common.{suc, Bool, not, ◌&&◌, subst, Option, take, get_or, nat_lt, nat_le}
+use Rattle.std.proofs.Common.{find, if◌then◌else◌, slice_index, slice_get, filter, IsTrue}
 use Rattle.std.proofs.lemmas.Bool.{cases_lt, lt-ltb, le-ltb, ltb-true, and_parts, and_from}
 use Rattle.std.proofs.lemmas.Bool.{leb-true}
-use Rattle.std.proofs.lemmas.Bool.Decides.{nat_tests}
-use Rattle.std.proofs.lemmas.Cmp.{nat_list_eq_equiv}
-use Rattle.sacn_source.specs.Identity.{Identity}
 use Rattle.sacn_receiver.specs.Source.{Entry, same_cid, records, record_of, is_after, is_accepted}
 use Rattle.sacn_receiver.specs.Source.{is_there, newest}
 use Rattle.sacn_receiver.specs.Laws.{accepted_packets}
@@ -18,40 +14,33 @@ use Rattle.sacn_receiver.proofs.Independent.{room_for, accepted_in}
 use Rattle.sacn_receiver.proofs.Members.{by_test, In, In_filter, In_filtered, In_map, In_mapped}
 use Rattle.sacn_receiver.proofs.Members.{found_in, in_from_place, place_from_in}
 use Rattle.rehearsal.specs.Delivery.{Delivery, newest_of, arrival, IsInWindow, deliveries}
-use Rattle.rehearsal.proofs.Wire.{entry, sent_is, newest_sent}
-use Rattle.rehearsal.proofs.Came.{IsInTime, source_of, were_in_time, were_sent, from_one, all_from}
-use Rattle.rehearsal.proofs.Came.{from_alone, from_console, follows, consoles_independent, IsRun}
-use Rattle.rehearsal.proofs.Came.{done_runs, timely, deliverer}
-use Rattle.std.specs.List.{list_all, range_with_len}
 use Rattle.std.proofs.lemmas.List.{get_or-replicate}
-use Rattle.std.proofs.lemmas.List.Elements.{All-map}
-use Rattle.std.proofs.lemmas.Option.{cond_some, slice_get_within, get_or_from_slice_get, same_Some}
+use Rattle.std.proofs.lemmas.Option.{cond_some}
 use Rattle.std.proofs.lemmas.List.FromFn.{length-range_with_len, get_or-range_with_len}
 use Rattle.std.proofs.lemmas.List.FromFn.{get_or-map-range_with_len, fill_by_all}
 use Rattle.std.proofs.lemmas.List.FromFn.{length-map-range_with_len}
 use Rattle.desk.specs.Meaning.{dark}
 use Rattle.desk.proofs.FrameSlots.{latest_full, unpatched_latest}
-use Rattle.sacn_source.specs.Stream.{Packet}
 use Rattle.console.proofs.Streams.{latest}
-use Rattle.sacn_receiver.specs.Shown.{Light, light_of, live, merged_slot, shown_slot, shown_slots}
+use Rattle.sacn_receiver.specs.Shown.{Light, light_of, live, merged_slot, shown_slot}
 use Rattle.sacn_receiver.proofs.Same.{merged_same}
-use Rattle.rehearsal.specs.declared.event.Event.{Event}
-use Rattle.rehearsal.specs.World.{World, console_at, universe_at, IsWorld}
-use Rattle.rehearsal.specs.Happened.{acts, packets_sent, accepted_by, datagram}
 use Rattle.rehearsal.specs.Replies.{last_event_moment, events_done, skip_of, taken_reply}
-use Rattle.rehearsal.specs.Replies.{event_reply, reply_to}
-use Rattle.rehearsal.specs.Replies.{AreReplies, last_slots}
+use Rattle.rehearsal.specs.Replies.{event_reply, reply_to, AreReplies, last_slots}
 use Rattle.rehearsal.specs.Laws.{IsAlone, NoStray, IsFreshIn, IsFresh, is_silent, is_live, is_lit}
 use Rattle.rehearsal.specs.Laws.{light, meant_slots, slots_at, accepted_from, Headline, IsOneOf}
 use Rattle.rehearsal.specs.Laws.{WindowLaw, UnpatchedSlotsAreZero, SilenceIsDark, MergeLaw}
 use Rattle.rehearsal.specs.Laws.{HearsAll, CidsDiffer, AreSettled, IsUnpatched, lights}
-use Rattle.std.specs.Option.{option_map, option_map_or}
-use Rattle.rehearsal.specs.declared.event.What.TheVariants.{Deliver, Show}
-use Rattle.rehearsal.specs.declared.reply.Skip.{Skip}
-use Rattle.rehearsal.specs.declared.reply.Reply.{Reply}
 use Rattle.rehearsal.specs.declared.reply.Reply.TheVariants.{Shown, Skipped}
-use Rattle.rehearsal.specs.Datagrams.{packet_bytes}
 use Rattle.rehearsal.specs.Shows.{IsShown, reply_alone}
+use Rattle.rehearsal.proofs.Terms.{nat_tests, nat_list_eq_equiv, Identity, list_all, range_with_len}
+use Rattle.rehearsal.proofs.Terms.{All-map, slice_get_within, get_or_from_slice_get, same_Some}
+use Rattle.rehearsal.proofs.Terms.{Packet, shown_slots, Event, World, console_at, universe_at}
+use Rattle.rehearsal.proofs.Terms.{IsWorld, acts, packets_sent, accepted_by, datagram, option_map}
+use Rattle.rehearsal.proofs.Terms.{option_map_or, Deliver, Show, Skip, Reply, packet_bytes}
+use Rattle.rehearsal.proofs.Wire.{entry, sent_is, newest_sent}
+use Rattle.rehearsal.proofs.Came.{IsInTime, source_of, were_in_time, were_sent, from_one, all_from}
+use Rattle.rehearsal.proofs.Came.{from_alone, from_console, follows, consoles_independent, IsRun}
+use Rattle.rehearsal.proofs.Came.{done_runs, timely, deliverer}
 
 -- how far k is ahead of a, as bytes count it
 abbrev steps : ℕ → ℕ → ℕ
@@ -88,8 +77,7 @@ module _ (t : ℕ) (d e a : Delivery) (ds : List Delivery) (h : Keeps d.moment (
     past = time;
   }
 
-  discarded : (nat_le (a.moment + 2500) d.moment || nat_lt a.k d.k) ≡ false
-      → Keeps t (d ∷ e ∷ ds) a
+  discarded : (nat_le (a.moment + 2500) d.moment || nat_lt a.k d.k) ≡ false → Keeps t (d ∷ e ∷ ds) a
   discarded why = let older : d.k ≤ a.k = grind (arith, nat_tests) in record {
     not_far_behind = omega (arith, h.not_far_behind, h.not_ahead);
     not_ahead = omega (arith, h.not_ahead);
@@ -261,8 +249,7 @@ module _ (w : World) (v : IsWorld w) (r : ℕ) (past : List Event) (run : IsRun 
 
   -- a console that is fresh is not silent, and one that is fresh or silent lights as it is to
   not_silent : IsFresh w r i past t → Kept → is_silent w r i past t ≡ false
-  not_silent fresh k =
-      let f = fresh_parts t _ (deliveries w r i past) fresh in
+  not_silent fresh k = let f = fresh_parts t _ (deliveries w r i past) fresh in
       by_test (is_silent w r i past t) (λ q. absurd (let s = silent_at t _ k.one q k.came in
       omega (arith, s, f.1, k.facts.after_arrival))) (λ q. q)
 
@@ -329,14 +316,9 @@ module _ (w : World) (v : IsWorld w) (r : ℕ) (past : List Event) (run : IsRun 
           (λ slot l. shown_alone (is_lit w r past t) (light w r past)
           (lit_settled (λ _. inl fresh)) slot ∙ by_test (is_live (acts w i past))
           (λ q. rw (not_silent fresh k, q) (one_light (light w r past i) slot))
-          (λ q. rw (
-            not_silent fresh k,
-            q,
-            latest (console_at w i) (universe_at w r)
-                (acts w i past),
-            q,
-            get_or-replicate {A = ℕ} 512 slot 0 0 l,
-          )))
+          (λ q. rw (not_silent fresh k, q)
+          (rw (latest (console_at w i) (universe_at w r) (acts w i past), q)
+          (rw (get_or-replicate {A = ℕ} 512 slot 0 0 l)))))
     ]
 
     pub silence : is_silent w r i past t ≡ true → slots_at w r past t ≡ dark
@@ -344,10 +326,8 @@ module _ (w : World) (v : IsWorld w) (r : ℕ) (past : List Event) (run : IsRun 
         shown_alone (is_lit w r past t) (light w r past) (lit_settled (λ _. inr silent)) slot
         ∙ rw silent)
 
-    pub near :
-        IsOneOf t (slots_at w r past t) (packets_sent w i (universe_at w r) past)
-        (deliveries w r i past)
-        ⊎ (slots_at w r past t ≡ dark)
+    pub near : IsOneOf t (slots_at w r past t) (packets_sent w i (universe_at w r) past)
+        (deliveries w r i past) ⊎ (slots_at w r past t ≡ dark)
     near = elim kept [
       | inl none ↦
           inr (dark_slots (accepted_by w r past) t (λ slot. shown_alone (λ _. false)
@@ -383,8 +363,7 @@ module _ (w : World) (v : IsWorld w) (r : ℕ) (past : List Event) (run : IsRun 
 
 pub merges : (w : World) → IsWorld w → (r : ℕ) (past : List Event) → IsRun w past → (t : ℕ)
     → last_event_moment past ≤ t → HearsAll w r past → AreSettled w r past t → (slot : ℕ)
-    → slot < 512
-    → slice_index (slots_at w r past t) slot ≡ merged_slot (lights w r past t) slot
+    → slot < 512 → slice_index (slots_at w r past t) slot ≡ merged_slot (lights w r past t) slot
 merges w v r past run t time hears state slot below =
     get_or-map-range_with_len (shown_slot (accepted_by w r past) t) 0 512 slot slot 0 below
     (omega arith)
@@ -462,15 +441,13 @@ was_shown w events replies last are left r t past slots (inr is) =
     let f : ℕ → List ℕ =
     λ r. slots_at w r (events_done w events) (last_event_moment (events_done w events)) in
     let count : ℕ = length w.receivers in
+    let within = slice_get_within (last_slots w (events_done w events)) r slots shown in
     rw (is.at_last, is.all) (record {
       run = done_runs w events;
       time = omega arith;
       are = sym (get_or_from_slice_get _ r slots [] shown)
-          ∙ get_or-map-range_with_len f 0 count r r [] (omega (
-            arith,
-            slice_get_within _ r slots shown,
-            length-map-range_with_len f 0 count,
-          )) (omega arith);
+          ∙ get_or-map-range_with_len f 0 count r r []
+          (omega (arith, within, length-map-range_with_len f 0 count)) (omega arith);
     })
 
 pub answers_alone : (w : World) (events : List Event) (replies : List Reply) → IsWorld w

@@ -1,25 +1,14 @@
 -- Which packets the events to come want, and that they are kept.
 use Rattle.std.proofs.Common.{◌≡◌, ℕ, zero, suc, ◌+◌, ◌<◌, ◌≤◌, refl, ap, sym, subst, ◌∙◌, List, []}
 use Rattle.std.proofs.Common.{◌∷◌, ◌-◌, ◌^◌, length, set, replicate, Some, inl, inr, arith, Option}
-use Rattle.std.proofs.Common.{None}
-use Rattle.std.proofs.lemmas.Option.{same_Some, get_or_from_slice_get, slice_get_within}
-use Rattle.std.specs.Prelude.{slice_get, slice_index, All}
+use Rattle.std.proofs.Common.{None, slice_get, slice_index, All}
 use Rattle.std.proofs.lemmas.Bool.{cases_eq}
 use Rattle.std.proofs.lemmas.List.{get_or-set_other, get_or-set_same, get_or-replicate}
 use Rattle.std.proofs.lemmas.List.{length-replicate}
-use Rattle.std.proofs.Math.ListN.{length-set}
-use Rattle.rehearsal.specs.declared.event.Event.{Event}
-use Rattle.rehearsal.specs.declared.event.What.{What}
-use Rattle.rehearsal.specs.declared.event.What.TheVariants.{Deliver}
-use Rattle.rehearsal.specs.Wanted.{IsFrom, IsUpTo, Spares, row_of, AreLows, AreUpTo, Holds}
-use Rattle.rehearsal.specs.Wanted.{span_at}
-use Rattle.std.specs.Option.{option_map}
-use Rattle.fade.specs.Level.{Start}
-use Rattle.rehearsal.specs.World.{World, console_at}
-use Rattle.rehearsal.specs.declared.stage.Stage.{Stage}
-use Rattle.rehearsal.specs.Shelves.{gone_of}
-use Rattle.rehearsal.specs.StageStands.{StageStands, LinkTells}
-use Rattle.rehearsal.specs.Stands.{ConsolesStand, AllTell}
+use Rattle.rehearsal.specs.Wanted.{IsFrom, IsUpTo, Spares, row_of, AreLows, AreUpTo, Holds, span_at}
+use Rattle.rehearsal.proofs.Terms.{same_Some, get_or_from_slice_get, slice_get_within, length-set}
+use Rattle.rehearsal.proofs.Terms.{Event, What, Deliver, option_map, Start, World, console_at}
+use Rattle.rehearsal.proofs.Terms.{Stage, gone_of, StageStands, LinkTells, ConsolesStand, AllTell}
 use Rattle.rehearsal.proofs.Linked.{first_gone}
 
 -- ---- the least numbers of the packets that later events deliver
@@ -57,10 +46,6 @@ lows_first events lows long = record {
       absurd (omega (arith, l, slice_get_within events i e a));
 }
 
--- each row is one of the table
-row_within : (c u : ℕ) → row_of c u < 64
-row_within c u = omega arith
-
 -- a lower one in its place
 index_less : (xs : List ℕ) (i j y : ℕ) → y ≤ slice_index xs i
     → slice_index (set xs i y) j ≤ slice_index xs j
@@ -88,8 +73,7 @@ module _ (events : List Event) (lows least : List ℕ) (from n : ℕ) (e : Event
     (all : AreLowsFrom events lows least from) where
   lows_with : (new_lows new_least : List ℕ) → length new_lows ≡ length lows
       → length new_least ≡ length least
-      → ((row : ℕ) → slice_index new_least row ≤ slice_index least row)
-      → IsLeast new_least e.what
+      → ((row : ℕ) → slice_index new_least row ≤ slice_index least row) → IsLeast new_least e.what
       → ((row low : ℕ) → IsFrom row low e.what → low ≤ slice_index least row
       → low ≤ slice_index new_least row)
       → ((i : ℕ) → n < i → slice_index new_lows i ≡ slice_index lows i)
@@ -105,11 +89,9 @@ module _ (events : List Event) (lows least : List ℕ) (from n : ℕ) (e : Event
         omega (arith, less (row_of i u), was)) j f g l;
     lows_are = λ i j d f l m a b. one_more
         (λ i d. n ≤ i → i < j → Spares d.what (slice_index new_lows i) f.what) events n e at
-        (λ _ m r c u k q v is other. omega (
-          arith,
-          here r c u k is,
-          all.least_are j f (omega (arith, m)) b q c u v other,
-        ))
+        (λ _ m r c u k q v is other.
+        let least = all.least_are j f (omega (arith, m)) b q c u v other in
+        omega (arith, here r c u k is, least))
         (λ i d q a l m. rw (past i (omega (arith, l, q)))
         (all.lows_are i j d f (omega (arith, l, q)) m a b)) i d a l m;
     greatest = λ row low inside wide h. kept row low (h n e (omega arith) at)
@@ -118,22 +100,15 @@ module _ (events : List Event) (lows least : List ℕ) (from n : ℕ) (e : Event
         (λ i d. n ≤ i → d.what ≡ Deliver r c u k → ((j : ℕ) (f : Event) → i < j
         → slice_get events j ≡ Some f → IsFrom (row_of c u) low f.what)
         → low ≤ slice_index new_lows i) events n e at
-        (λ _ is h. omega (
-          arith,
-          here r c u k is,
-          all.greatest (row_of c u) low (row_within c u)
-              wide (λ j f l g. h j f (omega (arith, l, next)) g),
-        ))
-        (λ i d q a l is h. omega (
-          arith,
-          past i (omega (arith, l, q)),
-          all.greatest_are i r c u k low d (omega (arith, next, l, q)) a is wide h,
-        )) i d a l is h;
+        (λ _ is h. let most = all.greatest (row_of c u) low (omega arith) wide
+        (λ j f l g. h j f (omega (arith, l, next)) g) in omega (arith, here r c u k is, most))
+        (λ i d q a l is h.
+        let most = all.greatest_are i r c u k low d (omega (arith, next, l, q)) a is wide h in
+        omega (arith, past i (omega (arith, l, q)), most)) i d a l is h;
   }
 
   -- no delivery
-  pub lows_still : ((r i u k : ℕ) → e.what ≡ Deliver r i u k → ⊥)
-      → AreLowsFrom events lows least n
+  pub lows_still : ((r i u k : ℕ) → e.what ≡ Deliver r i u k → ⊥) → AreLowsFrom events lows least n
   lows_still other = lows_with lows least refl refl (λ row. omega arith)
       (λ r i u k is. absurd (other r i u k is)) (λ row low _ l. l) (λ i l. refl)
       (λ r c u k is. absurd (other r c u k is))
@@ -152,13 +127,10 @@ module _ (events : List Event) (lows least : List ℕ) (from n : ℕ) (e : Event
       (λ q d v m e. let same : row ≡ row_of d v = cc in let k_is : k ≡ m = cc in
       omega (arith, lower, ap (slice_index (set least row y)) same, low))
       (λ other n h l. elim (cases_eq row other) [
-        | inl q ↦ omega (
-          arith,
-          lower,
-          ap (slice_index (set least row y)) q,
-          meet n (omega (arith, l, ap (slice_index least) q))
-              (h r c u k is (sym named ∙ q)),
-        )
+        | inl q ↦
+            (let most = meet n (omega (arith, l, ap (slice_index least) q))
+            (h r c u k is (sym named ∙ q)) in
+            omega (arith, lower, ap (slice_index (set least row y)) q, most))
         | inr q ↦ omega (arith, l, get_or-set_other least row other y 0 (λ e. q (sym e)))
       ])
       (λ i l. get_or-set_other lows n i (slice_index least row) 0 (λ q. omega (arith, l, q)))
@@ -188,8 +160,7 @@ pub spans_set : {F : Type 0} (stages : List (Stage F)) (i : ℕ) (was is : Stage
     → ((u : ℕ) → gone_of is.shelves.items u ≡ gone_of was.shelves.items u)
     → is.last ≡ was.last → (j u : ℕ) → span_at (set stages i is) j u ≡ span_at stages j u
 spans_set [] i was is at same last j u = cc
-spans_set (s ∷ stages) zero was is at same last zero u =
-    let e : was ≡ s = cc in
+spans_set (s ∷ stages) zero was is at same last zero u = let e : was ≡ s = cc in
     rw (same u, last) (ap (λ s. Some (gone_of s.shelves.items u, s.last)) e)
 spans_set (s ∷ stages) zero was is at same last (suc j) u = refl
 spans_set (s ∷ stages) (suc i) was is at same last zero u = refl
@@ -236,8 +207,7 @@ pub hold_next : {F : Type 0} (old stepped new : List (Stage F)) (events : List E
     (lows : List ℕ) (i : ℕ) (e : Event) → slice_get events i ≡ Some e → AreLows events lows
     → ((i u : ℕ) → span_at stepped i u ≡ span_at old i u)
     → ((later : What) → Holds stepped later → Spares e.what (slice_index lows i) later
-    → Holds new later)
-    → AllHold old events i → AllHold new events (i + 1)
+    → Holds new later) → AllHold old events i → AllHold new events (i + 1)
 hold_next old stepped new events lows i e at are same released all = λ j f l g.
     released f.what (holds_same old stepped same f.what (all j f (omega (arith, l)) g))
     (are i j e f (omega (arith, l)) at g)

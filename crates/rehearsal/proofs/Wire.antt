@@ -2,21 +2,15 @@
 -- sent, it stays, the newest is the frame of the latest tick, and the datagrams are the packets.
 use Rattle.std.proofs.Common.{◌≡◌, ℕ, ◌-◌, ◌%◌, ◌≤◌, Bool, true, false, not, refl, ap, sym, subst}
 use Rattle.std.proofs.Common.{◌∙◌, arith, List, ◌++◌, length, replicate, append-nil, Option, Some}
-use Rattle.std.proofs.Common.{None, suc, [], ◌∷◌, drop}
-use Rattle.std.specs.Prelude.{if◌then◌else◌, nat_lt, nat_eq, is_some, bit_and, slice_get, Contains}
-use Rattle.std.specs.Option.{option_or, option_map}
-use Rattle.std.proofs.lemmas.Bool.Decides.{nat_tests}
+use Rattle.std.proofs.Common.{None, suc, [], ◌∷◌, drop, if◌then◌else◌, nat_lt, nat_eq, is_some}
+use Rattle.std.proofs.Common.{bit_and, slice_get, Contains}
 use Rattle.std.proofs.lemmas.List.{take_all, length-take, length-drop}
 use Rattle.std.proofs.lemmas.Bool.{eq-eqb, cond-true, eqb-true}
 use Rattle.sacn_packet.specs.Wire.{WirePacket as WirePacket, IsData, HasPacket}
 use Rattle.sacn_packet.specs.Faults.{fault_of}
-use Rattle.sacn_packet.specs.Reading.{front_packet}
 use Rattle.sacn_packet.proofs.Packets.{layers_are_data, same_packet}
 use Rattle.sacn_packet.proofs.Found.{readable_from_packet, packet_ends}
 use Rattle.sacn_packet.proofs.Readable.{none_from_readable}
-use Rattle.sacn_source.specs.Identity.{Identity}
-use Rattle.sacn_source.specs.Stream.{Packet}
-use Rattle.sacn_receiver.specs.declared.answer.Ignored.{Ignored}
 use Rattle.sacn_receiver.specs.declared.answer.Ignored.TheVariants.{Unreadable}
 use Rattle.sacn_receiver.specs.Arrivals.{not_heard}
 use Rattle.sacn_receiver.specs.Source.{Entry, last_moment}
@@ -24,23 +18,21 @@ use Rattle.sacn_receiver.specs.Taking.{accepted_entry, unheard, history_after}
 use Rattle.sacn_receiver.proofs.Members.{by_test}
 use Rattle.rehearsal.specs.Datagrams.{fields_at, packet_bytes}
 use Rattle.rehearsal.specs.Delivery.{Delivery}
-use Rattle.rehearsal.specs.World.{IsIdentity, World, console_at, plays, IsConsole}
+use Rattle.rehearsal.specs.World.{IsConsole}
 use Rattle.std.proofs.lemmas.List.Elements.{All-contains}
-use Rattle.std.proofs.lemmas.Option.{get_or_from_slice_get, slice_get_within}
 use Rattle.patch.specs.Frame.{is_universe}
-use Rattle.desk.specs.declared.answer.Refused.{Refused}
-use Rattle.desk.specs.Played.{Call, Act, refusal}
 use Rattle.desk.specs.Meaning.{latest_frame}
 use Rattle.desk.proofs.Universes.{numbers_in}
 use Rattle.sacn_source.specs.Identify.{IsStreamPacket, options_of, packet_fields}
-use Rattle.sacn_source.proofs.Streams.{HoldsFull}
-use Rattle.console.specs.Streams.{Production, universes_of}
 use Rattle.console.proofs.Streams.{stream_full, packet_stays, newest_means}
-use Rattle.rehearsal.specs.declared.event.Event.{Event}
-use Rattle.rehearsal.specs.Happened.{console_call, unless_refused, acts_after_call, acts, stream}
-use Rattle.rehearsal.specs.Happened.{packets_sent}
+use Rattle.rehearsal.specs.Happened.{acts_after_call}
 use Rattle.rehearsal.specs.Laws.{is_live, DatagramsArePackets}
 use Rattle.std.proofs.lemmas.Map.Views.{Contains-from_any}
+use Rattle.rehearsal.proofs.Terms.{option_or, option_map, nat_tests, front_packet, Identity, Packet}
+use Rattle.rehearsal.proofs.Terms.{Ignored, IsIdentity, World, console_at, plays}
+use Rattle.rehearsal.proofs.Terms.{get_or_from_slice_get, slice_get_within, Refused, Call, Act}
+use Rattle.rehearsal.proofs.Terms.{refusal, HoldsFull, Production, universes_of, Event}
+use Rattle.rehearsal.proofs.Terms.{console_call, unless_refused, acts, stream, packets_sent}
 
 -- a packet says all of its source
 pub source_of : (who : Identity) (universe sequence options : ℕ) (bytes slots : List ℕ)
@@ -128,8 +120,7 @@ module _ (source : Identity) (universe k : ℕ) (packet : Packet)
       (fields_at source universe k packet) packet.slots has.1)) ∙ ap (unheard u) front_is
 
   pub heard_here : not_heard universe (packet_bytes source universe k packet) ≡ None
-  heard_here = by_wire universe
-      ∙ rw (eq-eqb universe universe refl, (options_are packet.ends).1)
+  heard_here = by_wire universe ∙ rw (eq-eqb universe universe refl, (options_are packet.ends).1)
 
   pub unheard_there : (u : ℕ) → nat_eq universe u ≡ false
       → is_some (not_heard u (packet_bytes source universe k packet)) ≡ true

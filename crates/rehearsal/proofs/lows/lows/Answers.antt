@@ -1,5 +1,5 @@
 use Rattle.std.proofs.Common.{rules, ℕ, ◌-◌, ◌<◌, length, arith}
-use Rattle.std.proofs.lemmas.Option.{slice_get-get_or}
+use Rattle.rehearsal.proofs.Terms.{slice_get-get_or}
 use Rattle.rehearsal.proofs.Wants.{lows_first, lows_more, lows_still}
 use Rattle.rehearsal.proofs.lows.lows.Goals as goal
 
@@ -18,8 +18,7 @@ loop-i-preserved-in-Deliver c =
 pub loop-i-preserved : goal.loop-i-preserved
 loop-i-preserved c =
     lows_still c.args.events.now c.loop-i.lows.items c.loop-i.least c.loop-i.i (c.loop-i.i - 1) _
-    (omega (arith, c.loop-i-test.true))
-    (slice_get-get_or c.args.events.now (c.loop-i.i - 1) _
+    (omega (arith, c.loop-i-test.true)) (slice_get-get_or c.args.events.now (c.loop-i.i - 1) _
     (omega (arith, c.loop-i.auto.i, c.loop-i-test.true))) c.loop-i.invariant
     c.in_default.not-Deliver
 

@@ -1,8 +1,6 @@
-use borrow.Author.Rules.{scaled_Fits}
 use Rattle.std.proofs.Common.{◌≡◌, ◌<◌, length, refl, arith, ap}
 use Rattle.std.proofs.lemmas.List.Elements.{All-nil, All-push}
-use Rattle.std.proofs.lemmas.Option.{slice_get_read}
-use Rattle.rehearsal.specs.declared.setup.Setup.{Setup}
+use Rattle.rehearsal.proofs.Terms.{scaled_Fits, slice_get_read, Setup}
 use Rattle.rehearsal.proofs.Events.{opened_more}
 use Rattle.rehearsal.proofs.opening.open_all.Goals as goal
 
@@ -32,8 +30,7 @@ loop-i-init g c = rw c.new-stages.ensures.items (
 )
 
 pub bounds-shows-setup : goal.bounds-shows-setup
-bounds-shows-setup g c =
-    let is = ap (λ (s : Setup). s.show) c.index-setups-i.is in
+bounds-shows-setup g c = let is = ap (λ (s : Setup). s.show) c.index-setups-i.is in
     omega (arith, c.requires c.loop-i.i c.index-setups-i.result c.loop-i-test.true, is)
 
 pub offset_bounds-shows-setup : goal.offset_bounds-shows-setup

@@ -1,7 +1,5 @@
-use Rattle.std.proofs.Common.{◌≡◌}
-use Rattle.std.specs.Prelude.{All}
-use Rattle.rehearsal.specs.Stands.{HasOpened}
-use Rattle.rehearsal.specs.StageStands.{StageStands, LinkTells}
+use Rattle.std.proofs.Common.{◌≡◌, All}
+use Rattle.rehearsal.proofs.Terms.{HasOpened, StageStands, LinkTells}
 use Rattle.rehearsal.proofs.opening.open_all.Given as goal
 
 abbrev pub invariant-loop-i : goal.invariant-loop-i

@@ -1,19 +1,16 @@
 use Rattle.std.proofs.Common.{length, ap, sym, ◌∙◌}
-use Rattle.std.specs.Result.{result_err}
+use Rattle.rehearsal.proofs.Terms.{result_err, world_in}
 use Rattle.rehearsal.proofs.Shown.{answers_alone, means, merges, near, silence, was_shown, zero}
-use Rattle.rehearsal.specs.Stands.{world_in}
 use Rattle.rehearsal.proofs.Refusals.{all_within, fine_world, universes_there}
 use Rattle.rehearsal.proofs.rehearsal.rehearse.Goals as goal
 
 pub perform-requires-clause-universes : goal.perform-requires-clause-universes
-perform-requires-clause-universes g c =
-    let r = c.args.rehearsal in
+perform-requires-clause-universes g c = let r = c.args.rehearsal in
     universes_there r.shows.now r.consoles.now r.receivers.now
     (sym c.check.ensures ∙ ap result_err c.in_ok-check.was)
 
 pub perform-requires-clause-within : goal.perform-requires-clause-within
-perform-requires-clause-within g c =
-    let r = c.args.rehearsal in
+perform-requires-clause-within g c = let r = c.args.rehearsal in
     all_within (length r.strays.now) r.events.now c.requires.within
 
 pub returns-in-Ok : goal.returns-in-Ok
@@ -33,8 +30,7 @@ returns-in-Ok g c =
       few = fine.1;
       replies = are;
       last = last;
-      headline = λ r i t past slots shown one fresh.
-          let k = at r t past slots shown in
+      headline = λ r i t past slots shown one fresh. let k = at r t past slots shown in
           k.are ∙ means w fine.0 r past k.run one.no_stray t k.time i one.window one.alone fresh;
       unpatched = λ r i t slot past slots shown one fresh below none.
           let k = at r t past slots shown in rw k.are
@@ -45,8 +41,7 @@ returns-in-Ok g c =
             near w fine.0 r past k.run one.no_stray t k.time i one.window one.alone,
             silence w fine.0 r past k.run one.no_stray t k.time i one.window one.alone,
           );
-      merge_law = λ r t slot past slots shown all settled below.
-          let k = at r t past slots shown in
+      merge_law = λ r t slot past slots shown all settled below. let k = at r t past slots shown in
           rw k.are (merges w fine.0 r past k.run t k.time all settled slot below);
       independent = answers_alone w events _ fine.0 are fine.1;
     }

@@ -1,12 +1,7 @@
-use borrow.Author.Rules.{scaled_Fits}
 use Rattle.std.proofs.Common.{◌≡◌, ◌≤◌, arith, subst}
-use Rattle.std.proofs.Math.ListN.{length-set}
-use Rattle.std.proofs.lemmas.Option.{slice_get-get_or, slice_get_within}
-use Rattle.rehearsal.specs.declared.event.What.TheVariants.{Deliver}
-use Rattle.rehearsal.specs.StageStands.{StageStands, LinkTells}
-use Rattle.rehearsal.specs.World.{console_at}
-use Rattle.rehearsal.specs.Happened.{acts}
-use Rattle.rehearsal.specs.Shelves.{KeepsFrom, gone_of}
+use Rattle.rehearsal.specs.Shelves.{KeepsFrom}
+use Rattle.rehearsal.proofs.Terms.{scaled_Fits, length-set, slice_get-get_or, slice_get_within}
+use Rattle.rehearsal.proofs.Terms.{Deliver, StageStands, LinkTells, console_at, acts, gone_of}
 use Rattle.rehearsal.proofs.Events.{all_set, tell_set}
 use Rattle.rehearsal.proofs.releasing.release.Goals as goal
 
@@ -19,13 +14,11 @@ returns-then-i-stages g c =
           (c.release.ensures.tells (all i _ at)) all;
       stand = λ w past all. record {
         each = omega (arith, length-set c.args.stages.now i c.release.new.self, all.each);
-        stand = all_set
-            (λ j s. StageStands g.F.Fader.stands_for s (console_at w j) (acts w j past))
+        stand = all_set (λ j s. StageStands g.F.Fader.stands_for s (console_at w j) (acts w j past))
             c.args.stages.now i c.release.new.self
             (c.release.ensures.stands _ _ (all.stand i _ at)) (λ j s _. all.stand j s);
       };
-      holds = λ later h spared r j u n s e found.
-          all_set (λ j s. later ≡ Deliver r j u n
+      holds = λ later h spared r j u n s e found. all_set (λ j s. later ≡ Deliver r j u n
           → (gone_of s.shelves.items u ≤ n) × (n ≤ s.last)) c.args.stages.now i
           c.release.new.self (λ e. let was = h r i u n _ e at in (
             c.release.ensures.gone u n was.0 (λ same. spared _ _ _ _ r n c.in-Deliver.is (cc)),
@@ -42,13 +35,7 @@ returns-then-i-stages g c =
 pub returns-else-i-stages-clause-left : goal.returns-else-i-stages-clause-left
 returns-else-i-stages-clause-left g c = λ r j u k s is at.
     let same : c.in-Deliver.console ≡ j = cc in
-    absurd (omega (
-      arith,
-      same,
-      c.from-i.ensures,
-      c.if-i-stages.false,
-      slice_get_within c.args.stages.now j s at,
-    ))
+    let within = slice_get_within c.args.stages.now j s at in absurd (omega arith)
 
 pub offset_bounds-stages-i : goal.offset_bounds-stages-i
 offset_bounds-stages-i g c = search scaled_Fits

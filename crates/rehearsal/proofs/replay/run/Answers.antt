@@ -1,12 +1,9 @@
-use borrow.Author.Rules.{scaled_Fits}
 use Rattle.std.proofs.Common.{◌≡◌, ◌<◌, ◌∙◌, length, get_or, take, ap, arith, refl, List}
-use Rattle.std.specs.Prelude.{slice_index}
-use Rattle.std.proofs.lemmas.Option.{slice_get-get_or, slice_get_within}
+use Rattle.std.proofs.Common.{slice_index}
 use Rattle.rehearsal.specs.Replies.{events_done, last_slots}
 use Rattle.desk.specs.declared.command.Command.TheVariants.{Go}
-use Rattle.rehearsal.specs.declared.event.Event.{Event}
-use Rattle.rehearsal.specs.declared.event.What.TheVariants.{Order}
 use Rattle.std.proofs.lemmas.List.{get_or_default, take_all}
+use Rattle.rehearsal.proofs.Terms.{scaled_Fits, slice_get-get_or, slice_get_within, Event, Order}
 use Rattle.rehearsal.proofs.Events.{early, replayed_more}
 use Rattle.rehearsal.proofs.Wants.{hold_first, hold_next}
 use Rattle.rehearsal.proofs.replay.run.Goals as goal
@@ -40,8 +37,7 @@ loop-i-preserved g c = (
       (slice_get-get_or c.args.events.now c.loop-i.i _ c.loop-i-test.true)
       c.in_ok-lows.ensures.lows c.in_ok-reply.ensures.spans
       (λ later h s. c.release.ensures.holds later h (rw low s)) c.loop-i.invariant.0),
-  λ w same are.
-      let all = c.loop-i.invariant.1 w same are in
+  λ w same are. let all = c.loop-i.invariant.1 w same are in
       let s = c.in_ok-reply.ensures.step w (events_done w (take c.loop-i.i c.args.events.now)) same
       all.last_is all.are in
       rw c.in_ok-push.ensures.items
@@ -65,20 +61,17 @@ step-requires-clause-real g c =
     )
 
 pub show_all-requires : goal.show_all-requires
-show_all-requires g c =
-    let b = c.requires.begun in early (c.loop-i.invariant.1 b.0 b.1 b.2)
+show_all-requires g c = let b = c.requires.begun in early (c.loop-i.invariant.1 b.0 b.1 b.2)
 
 pub returns : goal.returns
-returns g c = λ w same are.
-    let all = c.loop-i.invariant.1 w same are in
+returns g c = λ w same are. let all = c.loop-i.invariant.1 w same are in
     let events = c.args.events.now in
     let end : c.loop-i.i ≡ length events =
     omega (arith, c.loop-i-test.false, c.loop-i.auto.i-end) in
     record {
       replies = (
         omega (arith, all.long, end),
-        λ j e h.
-            let l : j < length events = slice_get_within events j e h in
+        λ j e h. let l : j < length events = slice_get_within events j e h in
             all.below j e (omega arith) h,
       );
       last =
@@ -88,8 +81,7 @@ returns g c = λ w same are.
     }
 
 pub step-requires-clause-holds : goal.step-requires-clause-holds
-step-requires-clause-holds g c =
-    c.loop-i.invariant.0 c.loop-i.i _ (omega arith)
+step-requires-clause-holds g c = c.loop-i.invariant.0 c.loop-i.i _ (omega arith)
     (slice_get-get_or c.args.events.now c.loop-i.i _ c.loop-i-test.true)
 
 pub step-requires-clause-within : goal.step-requires-clause-within

@@ -1,5 +1,4 @@
-use Rattle.std.proofs.Common.{◌+◌, ◌∷◌, ◌++◌, [], refl, take, ◌∙◌, ◌≤◌, arith}
-use Rattle.std.specs.Prelude.{if◌then◌else◌}
+use Rattle.std.proofs.Common.{◌+◌, ◌∷◌, ◌++◌, [], refl, take, ◌∙◌, ◌≤◌, arith, if◌then◌else◌}
 use Rattle.rehearsal.proofs.Linked.{rest_kept, gone_same, push_put, rest_changed, set_put}
 use Rattle.rehearsal.proofs.shelves.keep.Goals as goal
 

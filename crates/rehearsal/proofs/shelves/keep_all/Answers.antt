@@ -3,8 +3,7 @@ use Rattle.rehearsal.proofs.Linked.{sent_row}
 use Rattle.rehearsal.proofs.shelves.keep_all.Goals as goal
 
 pub loop-row-preserved : goal.loop-row-preserved
-loop-row-preserved c =
-    let at = c.loop-row in
+loop-row-preserved c = let at = c.loop-row in
     record {
       rest = λ u all r.
           rw (← sent_row u at.yielded c.in-Some.row all) (c.in_ok-keep.ensures.rest u _

@@ -1,7 +1,5 @@
 use Rattle.std.proofs.Common.{◌≡◌, ◌==◌, [], Option, None, refl, sym, ap, ◌∙◌, inl}
-use Rattle.std.specs.List.{position}
-use Rattle.std.specs.Option.{option_map_or}
-use Rattle.rehearsal.specs.declared.shelf.Shelf.{Shelf}
+use Rattle.rehearsal.proofs.Terms.{position, option_map_or, Shelf}
 use Rattle.rehearsal.proofs.Linked.{gone_released, push_put, rest_changed, set_put}
 use Rattle.rehearsal.proofs.shelves.release.Goals as goal
 

@@ -1,26 +1,21 @@
-use Rattle.std.proofs.Common.{◌≡◌, ap, sym, ◌∙◌, refl, None, Some, arith}
+use Rattle.std.proofs.Common.{◌≡◌, ap, sym, ◌∙◌, refl, None, Some, arith, length, nat_eq}
+use Rattle.std.proofs.Common.{if◌then◌else◌}
 use Rattle.std.proofs.lemmas.Bool.{le-ltb, lt-ltb}
-use Rattle.std.specs.Prelude.{length, nat_eq, if◌then◌else◌}
-use Rattle.std.specs.Option.{option_map}
-use Rattle.rehearsal.specs.declared.event.Event.{Event}
 use Rattle.rehearsal.specs.Wanted.{hands_over}
-use Rattle.rehearsal.specs.World.{World}
+use Rattle.rehearsal.proofs.Terms.{option_map, World, StageStands, LinkTells}
 use Rattle.rehearsal.proofs.Events.{absent, at_number, looked_up}
-use Rattle.rehearsal.specs.StageStands.{StageStands, LinkTells}
 use Rattle.rehearsal.proofs.steps.deliver_at.Goals as goal
 
 pub datagram-requires : goal.datagram-requires
-datagram-requires g c =
-    let kept = c.requires _ _ _ _ _ refl
+datagram-requires g c = let kept = c.requires _ _ _ _ _ refl
     (at_number c.args.stages.now _ _ _ c.from-i.ensures c.if-i-stages.false c.index-stages-i.is) in
     record { here = kept.0; wanted = kept.1 }
 
 pub returns-in-None : goal.returns-in-None
 returns-in-None g c =
-    let is = looked_up (StageStands g.F.Fader.stands_for) LinkTells c.args.stages.now
-    c.args.receivers.now c.args.handover.console c.args.handover.receiver
-    c.args.handover.universe c.args.handover.k _
-    (at_number c.args.stages.now _ _ _ c.from-i.ensures c.if-i-stages.false c.index-stages-i.is)
+    let is = looked_up (StageStands g.F.Fader.stands_for) LinkTells _ c.args.receivers.now _
+    c.args.handover.receiver _ _ _ (at_number c.args.stages.now _ _ _ c.from-i.ensures
+    c.if-i-stages.false c.index-stages-i.is)
     (omega (arith, c.from.ensures, c.if-from-receivers.false)) None
     (λ p h s t. ap (option_map (λ b. b.now)) (sym c.in-None.is) ∙ c.datagram.ensures p h s t) in
     record {
@@ -30,21 +25,17 @@ returns-in-None g c =
 
 pub returns-in-Some : goal.returns-in-Some
 returns-in-Some g c =
-    let is = looked_up (StageStands g.F.Fader.stands_for) LinkTells c.args.stages.now
-    c.args.receivers.now c.args.handover.console c.args.handover.receiver
-    c.args.handover.universe c.args.handover.k _
-    (at_number c.args.stages.now _ _ _ c.from-i.ensures c.if-i-stages.false c.index-stages-i.is)
+    let is = looked_up (StageStands g.F.Fader.stands_for) LinkTells _ c.args.receivers.now _
+    c.args.handover.receiver _ _ _ (at_number c.args.stages.now _ _ _ c.from-i.ensures
+    c.if-i-stages.false c.index-stages-i.is)
     (omega (arith, c.from.ensures, c.if-from-receivers.false)) (Some c.in-Some.bytes.now)
     (λ p h s t. ap (option_map (λ b. b.now)) (sym c.in-Some.is) ∙ c.datagram.ensures p h s t) in
     record {
       reply = λ w past all tell hear. let i = is w past all tell hear in
           rw (i.2, ← i.1) (rw i.0 at (c.hear_at.ensures.reply w past hear));
       hear = λ w past all tell hear. let i = is w past all tell hear in
-          let e : Event = record {
-            moment = c.args.moment;
-            what = hands_over c.args.handover;
-          } in
-          rw i.2 (rw i.0 at (c.hear_at.ensures.hear w past e hear refl
+          rw i.2 (rw i.0 at (c.hear_at.ensures.hear w past
+          (record { moment = c.args.moment; what = hands_over c.args.handover }) hear refl
           (λ r. ap (λ o. if nat_eq c.args.handover.receiver r then o else None) (sym i.1))));
     }
 

@@ -1,16 +1,11 @@
-use borrow.Author.Rules.{scaled_Fits}
-use Rattle.std.proofs.Common.{ap, sym, ◌∙◌, refl}
-use Rattle.std.specs.Prelude.{slice_get}
-use Rattle.std.specs.Result.{result_err}
-use Rattle.std.proofs.lemmas.Option.{slice_get-get_or}
+use Rattle.std.proofs.Common.{ap, sym, ◌∙◌, refl, slice_get}
 use Rattle.std.proofs.lemmas.Result.{on_err_weaker}
 use Rattle.desk.specs.Played.{order}
-use Rattle.rehearsal.specs.World.{console_at}
-use Rattle.rehearsal.specs.Happened.{acts}
+use Rattle.rehearsal.specs.Stands.{order_reply}
+use Rattle.rehearsal.proofs.Terms.{scaled_Fits, result_err, slice_get-get_or, console_at, acts}
+use Rattle.rehearsal.proofs.Terms.{LinkTells}
 use Rattle.rehearsal.proofs.Events.{tell_set, err_of, stand_call, here, told}
 use Rattle.rehearsal.proofs.Wants.{spans_set}
-use Rattle.rehearsal.specs.Stands.{order_reply}
-use Rattle.rehearsal.specs.StageStands.{LinkTells}
 use Rattle.rehearsal.proofs.steps.order_at.Goals as goal
 
 pub returns : goal.returns
@@ -23,9 +18,7 @@ returns g c =
           (c.order.ensures.still_tells (all _ _ at)) all;
       spans = rw c.from-i.ensures (spans_set c.args.stages.now k _ c.order.new.self at
           c.order.ensures.gone c.order.ensures.last);
-      reply = λ w past all.
-          rw (here all k _ at)
-          (c.order_reply.ensures ∙ ap order_reply
+      reply = λ w past all. rw (here all k _ at) (c.order_reply.ensures ∙ ap order_reply
           (c.order.ensures.answer (console_at w k) (acts w k past) (all.stand k _ at))
           ∙ told order_reply tt _);
       stands = λ w past all. rw c.from-i.ensures (

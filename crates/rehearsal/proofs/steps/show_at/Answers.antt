@@ -1,12 +1,11 @@
 use Rattle.std.proofs.Common.{ap, ◌∙◌}
 use Rattle.rehearsal.specs.declared.reply.Reply.TheVariants as reply
-use Rattle.rehearsal.specs.Happened.{accepted_by}
+use Rattle.rehearsal.proofs.Terms.{accepted_by}
 use Rattle.rehearsal.proofs.Events.{there, at_number}
 use Rattle.rehearsal.proofs.steps.show_at.Goals as goal
 
 pub slots-requires : goal.slots-requires
-slots-requires c =
-    c.requires c.args.receiver c.index-receivers-r.result
+slots-requires c = c.requires c.args.receiver c.index-receivers-r.result
     (at_number c.args.receivers.now _ _ _ c.from-r.ensures c.if-r-receivers.false
     c.index-receivers-r.is)
 

@@ -1,16 +1,10 @@
-use borrow.Author.Rules.{scaled_Fits}
-use Rattle.std.proofs.Common.{ap, sym, ◌∙◌, refl}
-use Rattle.std.specs.Prelude.{slice_get}
-use Rattle.std.specs.Result.{result_err}
-use Rattle.std.proofs.lemmas.Option.{slice_get-get_or}
+use Rattle.std.proofs.Common.{ap, sym, ◌∙◌, refl, slice_get}
 use Rattle.desk.specs.Played.{tick}
-use Rattle.rehearsal.specs.World.{console_at}
-use Rattle.rehearsal.specs.Happened.{acts}
-use Rattle.rehearsal.proofs.Events.{absent, always, err_of, here, stand_call, tell_set, told}
-use Rattle.std.proofs.lemmas.Result.{IfOk-weaker}
-use Rattle.rehearsal.proofs.Wants.{spans_set}
 use Rattle.rehearsal.specs.Stands.{tick_reply}
-use Rattle.rehearsal.specs.StageStands.{LinkTells}
+use Rattle.rehearsal.proofs.Terms.{scaled_Fits, result_err, slice_get-get_or, console_at, acts}
+use Rattle.rehearsal.proofs.Terms.{IfOk-weaker, LinkTells}
+use Rattle.rehearsal.proofs.Events.{absent, always, err_of, here, stand_call, tell_set, told}
+use Rattle.rehearsal.proofs.Wants.{spans_set}
 use Rattle.rehearsal.proofs.steps.tick_at.Goals as goal
 
 pub tick-answer-requires : goal.tick-answer-requires
@@ -38,8 +32,7 @@ returns g c =
       spans = always c.tick_reply.result _ (λ _. rw c.from-i.ensures
           (spans_set c.args.stages.now k _ c.tick-answer.new.self at
           (c.tick-answer.ensures.gone tells) c.tick-answer.ensures.last));
-      reply = IfOk-weaker c.tick_reply.result _ _ (λ reply is w past all.
-          rw (here all k _ at)
+      reply = IfOk-weaker c.tick_reply.result _ _ (λ reply is w past all. rw (here all k _ at)
           (is ∙ ap tick_reply
           (c.tick-answer.ensures.answer (console_at w k) (acts w k past) (all.stand k _ at) tells)
           ∙ told tick_reply _ _)) c.tick_reply.ensures;

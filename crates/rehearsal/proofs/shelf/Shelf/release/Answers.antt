@@ -10,6 +10,5 @@ loop-gone-preserved c = (
   λ k a b. omega (arith, c.loop-gone-test.true, b),
   λ all r. rest_popped (λ packet. packet.items) c.loop-gone.gone c.pop_front.result
       c.loop-gone.self.packets c.pop_front.new.self all c.pop_front.ensures.packets
-      (ap is_some c.in-Some.is)
-      (rw (sym c.loop-gone.invariant.0) (c.loop-gone.invariant.3 all r)),
+      (ap is_some c.in-Some.is) (rw (sym c.loop-gone.invariant.0) (c.loop-gone.invariant.3 all r)),
 )

@@ -1,5 +1,5 @@
 use Rattle.std.proofs.Common.{◌≡◌, ◌≤◌, ℕ, List}
-use Rattle.rehearsal.specs.Shelves.{IsRest}
+use Rattle.rehearsal.proofs.Terms.{IsRest}
 use Rattle.rehearsal.proofs.shelf.Shelf.release.Given as goal
 
 abbrev pub invariant-loop-gone : goal.invariant-loop-gone

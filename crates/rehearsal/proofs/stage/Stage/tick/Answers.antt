@@ -3,8 +3,7 @@ use Rattle.rehearsal.proofs.Linked.{answer_is, leaves}
 use Rattle.rehearsal.proofs.stage.Stage.tick.Goals as goal
 
 pub returns : goal.returns
-returns g c =
-    let left = leaves g.F.Fader.stands_for c.args.self.now
+returns g c = let left = leaves g.F.Fader.stands_for c.args.self.now
     (record {
       console = c.tick-answer.new.self;
       link = c.shelve.new.link;
@@ -17,8 +16,7 @@ returns g c =
     c.tick-answer.ensures.quiet in
     record {
       answer = λ p h s tells. answer_is c.tick-answer.result _ _ _
-          (c.tick-answer.ensures.answer p h s.console_stands)
-          (left.0 p h s tells);
+          (c.tick-answer.ensures.answer p h s.console_stands) (left.0 p h s tells);
       stands = left.1;
       kept = left.2;
       gone = c.shelve.ensures.gone;
