@@ -44,7 +44,7 @@ pub use Rattle.cmd_cues.specs.Table.{table_text, label_cell, cue_table_line, cel
 pub use Rattle.cmd_cues.specs.Table.{master_table_line, universe_table_line}
 pub use Rattle.cmd_cues.specs.Rows.{cue_row, dimmer_count}
 pub use Rattle.cmd_explain.proofs.Ascending.{entry_at}
-pub use Rattle.hex.specs.Hex.{encode_with}
+unfoldable pub use Rattle.hex.specs.Hex.{encode_with}
 pub use Rattle.show_line.specs.declared.statement.Record.TheVariants.{Cue}
 pub use Rattle.cmd_cues.specs.Masters.{record_in, masters_head}
 pub use Rattle.std.specs.List.{position_or_len, suffix_len, prefix_len}

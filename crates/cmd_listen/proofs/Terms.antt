@@ -21,7 +21,7 @@ pub use Rattle.cmd_listen.specs.Listening.{NextFails}
 pub use Rattle.std.specs.Prelude.{Option, replicate, Ok, Err, bytes_eq, filter, find, nat_eq}
 pub use Rattle.std.specs.Prelude.{nat_lt, Some, None, All, ◌==◌, ◌&&◌, ◌||◌, if◌then◌else◌, OnErr}
 pub use Rattle.std.specs.Prelude.{OnOk, IfOk, IsOk, is_ok, decimal}
-pub use Rattle.std.specs.Fmt.{digits}
+unfoldable pub use Rattle.std.specs.Fmt.{digits}
 pub use Rattle.sacn_packet.specs.Layers.{dmp_layer, framing_layer, root_layer}
 pub use Rattle.sacn_packet.specs.Name.{padded_name}
 pub use Rattle.sacn_packet.specs.Wire.{Fields, WirePacket, HasPacket}

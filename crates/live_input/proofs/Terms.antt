@@ -68,7 +68,8 @@ pub use Rattle.live_input.specs.declared.given.Given.TheVariants.{Line, Over, Re
 pub use Rattle.live_input.specs.Recall.{AreRecalled, IsRecalled, recall_of, recall_line}
 pub use Rattle.live_input.specs.Recall.{recalled_by, typed_again}
 pub use Rattle.std.specs.Char.{is_ascii_digit, to_ascii_lowercase}
-pub use Rattle.std.specs.Fmt.{digit_glyph, digits, digits_onto}
+pub use Rattle.std.specs.Fmt.{digit_glyph, digits_onto}
+unfoldable pub use Rattle.std.specs.Fmt.{digits}
 pub use Rattle.std.specs.Str.Parse.{digits_value}
 pub use Rattle.std.proofs.lemmas.List.Splits.{slice_split_at}
 pub use Rattle.std.proofs.lemmas.Slice.Eq.{bytes_eq-Decides}

@@ -3,7 +3,7 @@ pub use Rattle.console.specs.Streams.{Production, universes_of}
 pub use Rattle.desk.specs.Played.{Act, Call, outcome, refusal}
 pub use Rattle.desk.specs.declared.answer.Refused.{Refused}
 pub use Rattle.fade.specs.Level.{Start}
-pub use Rattle.rehearsal.specs.Datagrams.{packet_bytes}
+unfoldable pub use Rattle.rehearsal.specs.Datagrams.{packet_bytes}
 pub use Rattle.rehearsal.specs.Happened.{accepted_by, acts, bytes_of, console_call, datagram}
 pub use Rattle.rehearsal.specs.Happened.{datagram_to, packets_sent, stream, unless_refused}
 pub use Rattle.rehearsal.specs.Shelves.{IsRest, gone_of, shelf_packets}
