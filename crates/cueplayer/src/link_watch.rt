@@ -20,7 +20,7 @@ impl<'a> LinkTeller<'a> {
     /// To which hosts there is no route was told at the start.
     pub fn new(rt: &'a HostRuntime, network: &'a RefCell<Network>) -> LinkTeller<'a> {
         let start = match network.try_borrow() {
-            Ok(network) => network.found(),
+            Ok(network) => network.latest_look(),
             Err(_) => NetworkLook::default(),
         };
         LinkTeller {

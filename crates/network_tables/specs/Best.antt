@@ -12,9 +12,9 @@ wider (Some before) route = if nat_le (width_of route) (width_of before) then be
 abbrev pub better : List ℕ → Option RouteEntry → RouteEntry → Option RouteEntry
 better host best route = if leads_to host route then Some (wider best route) else best
 
--- the route of the table that was found, read one by one
-abbrev pub found : List ℕ → List RouteEntry → Option RouteEntry
-found host routes = fold (better host) None routes
+-- the best of the routes of a table, read one by one
+abbrev pub best_among : List ℕ → List RouteEntry → Option RouteEntry
+best_among host routes = fold (better host) None routes
 
 -- it does not lead to the host
 abbrev pub LeadsElsewhere : List ℕ → RouteEntry → Type 0
@@ -48,4 +48,4 @@ IsRouteTo host routes (Some route) = IsFirstWidest host routes route
 -- look at most bits; and none exactly where none leads there
 abbrev pub BestRouteLaw : Type 0
 BestRouteLaw = (host : List ℕ) (routes : List RouteEntry)
-    → IsRouteTo host routes (found host routes)
+    → IsRouteTo host routes (best_among host routes)

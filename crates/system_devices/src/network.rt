@@ -147,7 +147,7 @@ impl Network {
     }
 
     /// What is known of the addresses and the ways, as the last look found them.
-    pub fn found(&self) -> NetworkLook {
+    pub fn latest_look(&self) -> NetworkLook {
         let mut found = NetworkLook::default();
         for source in self.sources.as_slice() {
             let _ = found.sources.try_push(source.state);

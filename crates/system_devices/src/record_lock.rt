@@ -32,7 +32,7 @@ impl<'a> SystemLock<'a> {
 
     // The lock of a record's file.
     fn of_record(rt: &'a HostRuntime, file: &File) -> Self {
-        match shared(rt, file) {
+        match shared_descriptor(rt, file) {
             Some(descriptor) => SystemLock { rt, descriptor },
             None => SystemLock::of(rt, file),
         }
@@ -98,7 +98,7 @@ pub fn is_same(left: &Metadata, right: &Metadata) -> bool {
 }
 
 // The descriptor that is shared with the writer of this file, where there is one.
-fn shared(rt: &HostRuntime, file: &File) -> Option<RawFd> {
+fn shared_descriptor(rt: &HostRuntime, file: &File) -> Option<RawFd> {
     let name = env::var(rt, SHARED).ok()?;
     let found = metadata(rt, name.as_str()).ok()?;
     let own = file.metadata().ok()?;

@@ -26,7 +26,7 @@ impl NightNetwork for SystemNetwork<'_> {
         match self.network.try_borrow_mut() {
             Ok(mut network) => {
                 network.look(self.rt);
-                network.found()
+                network.latest_look()
             }
             Err(_) => NetworkLook::default(),
         }

@@ -35,7 +35,7 @@ impl TiedSocket {
     ///
     /// The system's reason.
     pub fn send(&self, bytes: &[u8], host: [u8; 4], port: u16) -> Result<(), ErrorKind> {
-        send_whole(&self.socket, bytes, mapped(host, port))
+        send_whole(&self.socket, bytes, in_version_6(host, port))
     }
 }
 
@@ -47,7 +47,7 @@ impl TiedSocket {
 // fails, as from an address of IPv4. Whether it is tied shows at once: another card is then refused
 // for that reason.
 fn tie(rt: &HostRuntime, address: [u8; 4], index: u32) -> Option<UdpSocket> {
-    let socket = UdpSocket::bind(rt, mapped(address, 0)).ok()?;
+    let socket = UdpSocket::bind(rt, in_version_6(address, 0)).ok()?;
     let own = socket.connect(neighbor_by(index)).err()?.kind();
     let other = socket.connect(neighbor_by(other_card(index))).err()?.kind();
     if is_tied(own, other) {
@@ -61,7 +61,7 @@ fn tie(rt: &HostRuntime, address: [u8; 4], index: u32) -> Option<UdpSocket> {
 /// does not tell. No packet is sent.
 pub fn source_by(rt: &HostRuntime, card: &str, host: [u8; 4]) -> Option<[u8; 4]> {
     let socket = tie(rt, [0, 0, 0, 0], card_index(rt, card)?)?;
-    socket.connect(mapped(host, PORT)).ok()?;
+    socket.connect(in_version_6(host, PORT)).ok()?;
     match socket.local_addr() {
         Ok(SocketAddr::V6(address)) => Some(address.ip().to_ipv4_mapped()?.octets()),
         _ => None,
@@ -69,7 +69,7 @@ pub fn source_by(rt: &HostRuntime, card: &str, host: [u8; 4]) -> Option<[u8; 4]>
 }
 
 // An address of IPv4 as a socket of IPv6 takes it.
-fn mapped(address: [u8; 4], port: u16) -> SocketAddr {
+fn in_version_6(address: [u8; 4], port: u16) -> SocketAddr {
     SocketAddr::new(IpAddr::V6(Ipv4Addr::from(address).to_ipv6_mapped()), port)
 }
 

@@ -104,7 +104,7 @@ fn frame_of(rt: &impl Abort, rig: &Rig, k: u16, levels: &[u16; 4096], grand: u8)
 }
 
 // The slots of all dimmers, over what was there.
-fn drawn(rt: &impl Abort, rig: &Rig, levels: &[u16; 4096], grand: u8) -> [u8; 8192] {
+fn slots_drawn(rt: &impl Abort, rig: &Rig, levels: &[u16; 4096], grand: u8) -> [u8; 8192] {
     assert!(rt; are_levels(levels));
     let mut slots = [99; 8192];
     rig.draw(&mut slots, levels, grand);
@@ -116,7 +116,7 @@ fn drawn(rt: &impl Abort, rig: &Rig, levels: &[u16; 4096], grand: u8) -> [u8; 81
 fn slots_are(rt: &impl Abort, rig: &Rig, levels: &[u16; 4096], rows: &[(u16, u8, usize, u8)]) {
     for (k, grand, place, slot) in rows {
         let alone = frame_of(rt, rig, *k, levels, *grand);
-        let together = drawn(rt, rig, levels, *grand);
+        let together = slots_drawn(rt, rig, levels, *grand);
         assert!(rt;
             alone.get(*place) == Some(slot),
             "place {place} of {k} at {grand}"
@@ -178,7 +178,7 @@ fn redraws(
     put(levels, channels, level);
     assert!(rt; are_levels(levels) && are_channels(channels));
     rig.redraw(slots, channels, levels, 200);
-    *slots == drawn(rt, rig, levels, 200)
+    *slots == slots_drawn(rt, rig, levels, 200)
 }
 
 // Channel 7 has dimmers in two universes, channels 3 and 5 have none, and 4096 has the last one.
