@@ -7,3 +7,4 @@ pub mod Line
 pub mod Job
 pub mod Misfit
 pub mod Asked
+pub mod Source
