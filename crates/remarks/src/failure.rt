@@ -82,7 +82,7 @@ impl Failure {
         lost: Option<LostPacket<'_>>,
         output: Option<ErrorKind>,
     ) -> Failure
-        ensures { Fails fault (of_night fault show.now lost output) result }
+        ensures { Fails fault (of_night fault show.now lost.entry output) result }
     {
         let remark = match (fault, lost) {
             (RunFault::Lost(_), Some(lost)) => of_device(lost.address, lost.kind),

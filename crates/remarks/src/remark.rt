@@ -58,7 +58,19 @@ pub fn of_seeming(what: &str) -> Remark
 pub fn refused_line(text: &[u8], why: &str) -> ArrayVec<u8, 513>
     ensures { result.items ≡ refused_line text.now why.now }
 {
-    let remark = join(&[b"line refused: ", text, b": ", part(why)]);
+    with_line_feed(&refused(text, part(why)))
+}
+
+fn refused(text: &[u8], why: &[u8]) -> Remark
+    ensures { result.items
+        ≡ remark_of (codes "line refused: " ∷ text.now ∷ codes ": " ∷ why.now ∷ []) }
+{
+    join(&[b"line refused: ", text, b": ", why])
+}
+
+fn with_line_feed(remark: &Remark) -> ArrayVec<u8, 513>
+    ensures { result.items ≡ remark.now.items ++ codes "\n" }
+{
     let mut line = ArrayVec::new();
     let _ = line.try_extend_from_slice(remark.as_slice());
     let _ = line.try_push(b'\n');
