@@ -29,7 +29,10 @@ impl NightOpening {
     {
         NightOpening {
             head: None,
-            lines: TakenUp { from: 0, to: length },
+            lines: TakenUp {
+                from: 0,
+                to: length,
+            },
         }
     }
 
