@@ -1,7 +1,7 @@
 -- A night that follows a main, by what happened where the main is watched. Lists have the newest
 -- first.
 use Rattle.std.specs.Prelude.{◌≡◌, ℕ, Bool, true, false, List, [], ◌∷◌, ◌++◌, nat_eq}
-use Rattle.std.specs.Prelude.{Option, Some, None, if◌then◌else◌}
+use Rattle.std.specs.Prelude.{Option, Some, None, codes, if◌then◌else◌}
 use Rattle.std.specs.Duration.{as_nanos}
 use Rattle.ascii_text.specs.Text.{words_of}
 use Rattle.live_machine.specs.declared.input.Came.TheVariants.{TypedEnd}
@@ -109,6 +109,12 @@ EndsBy patience ending.Gone (event.Unreadable ∷ older) = Unit {0}
 EndsBy patience ending.Gone (event.Gone ∷ older) = Unit {0}
 EndsBy patience ending.Gone (event.Deaf ∷ older) = Unit {0}
 EndsBy patience _ _ = ⊥
+
+-- why a following ended, in words
+abbrev pub ending_words : Ending → List ℕ
+ending_words ending.Taken = codes "the following was ended"
+ending_words ending.Silent = codes "the main is silent"
+ending_words ending.Gone = codes "the main's record is gone"
 
 -- no line that stands there is left, unless the following was ended
 abbrev pub NoneIsLeft : Ending → List (List ℕ) → Type 0

@@ -6,7 +6,7 @@ ghost use Rattle.ascii_text.specs.Text.{words_of};
 ghost use Rattle.night_record.specs.Asked.{asked_by};
 ghost use Rattle.cmd_live.specs.declared.main_console.Led.TheVariants.{End, Line};
 ghost use Rattle.cmd_live.specs.Backup.{AreDone, EndsBy, IsTypedFirst, LedTo, NoneIsLeft};
-ghost use Rattle.cmd_live.specs.Backup.{deeds_for, is_comment, told_by_main};
+ghost use Rattle.cmd_live.specs.Backup.{deeds_for, ending_words, is_comment, told_by_main};
 ghost use Rattle.cmd_live.specs.declared.backup.Ending.TheVariants as ending;
 ghost use Rattle.cmd_live.specs.declared.main_watch.MainEvent.TheVariants as event;
 
@@ -25,6 +25,20 @@ pub enum Ending {
     Silent,
     /// The main's record is gone, or cannot be read; or what is typed cannot be waited for.
     Gone,
+}
+
+impl Ending {
+    /// Why a night goes on by itself, in words.
+    pub fn words(self) -> &'static str
+        ensures words { result.now ≡ ending_words self }
+        ensures room { length result.now ≤ 40 }
+    {
+        match self {
+            Ending::Taken => "the following was ended",
+            Ending::Silent => "the main is silent",
+            Ending::Gone => "the main's record is gone",
+        }
+    }
 }
 
 /// A main that a night follows.

@@ -8,3 +8,4 @@ pub mod Job
 pub mod Misfit
 pub mod Asked
 pub mod FormTexts
+pub mod Source

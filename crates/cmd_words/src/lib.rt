@@ -17,10 +17,12 @@ mod misfit;
 mod number;
 mod program;
 mod read;
+mod source;
 mod target;
 mod universe_list;
 
 pub use job::{Job, Name, Night, WordsFault};
 pub use misfit::{Form, Misfit};
 pub use read::read_words;
+pub use source::{name_on, source_name};
 pub use universe_list::UniverseList;

@@ -3,11 +3,11 @@ use arrayvec::{ArrayString, ArrayVec};
 use cmd_faults::RunFault;
 use cmd_words::{Name, Night};
 use network_tables::{Card, CardRefusal, CardState, CardWord, Cards, choose};
+use night_lines::sole_target;
 use remarks::{DownCards, Failure, JobFault, Remark, of_card, of_route, of_target};
 use show_reader::read_show;
 use std::fmt::Write;
 use system_devices::{Leaving, Network, card_state, read_cards};
-use targets::Targets;
 
 // The names of cards, with commas between them.
 type CardNames = ArrayString<160>;
@@ -18,7 +18,8 @@ type CardNames = ArrayString<160>;
 ///
 /// `Words` where one does not; `Run` where memory was refused. A show that cannot be read suits.
 pub fn check_targets(rt: &HostRuntime, night: &Night, show: &[u8]) -> Result<(), JobFault> {
-    if suits_all(&night.targets) {
+    // One target for all universes suits each show.
+    if sole_target(&night.targets).is_some() {
         return Ok(());
     }
     let loaded = match read_show(rt.alloc(), show) {
@@ -35,14 +36,6 @@ pub fn check_targets(rt: &HostRuntime, night: &Night, show: &[u8]) -> Result<(),
     match night.targets.misfit(universes.as_slice()) {
         None => Ok(()),
         Some(misfit) => Err(JobFault::Words(of_target(misfit))),
-    }
-}
-
-// One target for all universes suits each show.
-fn suits_all(targets: &Targets) -> bool {
-    match targets.as_slice() {
-        [only] => only.universes.is_none(),
-        _ => false,
     }
 }
 

@@ -1,7 +1,5 @@
-use arrayvec::ArrayString;
 use cmd_faults::RunFault;
 use remarks::{Failure, JobFault, Refusal};
-use std::fmt::Write;
 use std::io::ErrorKind;
 use system_devices::{DeviceFault, LockFault, RecordFault, SocketFault};
 
@@ -23,13 +21,7 @@ pub fn of_lock_fault(fault: LockFault) -> Failure {
     let LockFault::Held(path) = fault else {
         return Failure::from(RunFault::Memory);
     };
-    let mut words = ArrayString::<700>::new();
-    let path = path.as_str();
-    let _ = write!(
-        words,
-        "another console on this machine sends under this CID, by {path}"
-    );
-    Failure::device(words.as_str())
+    Failure::of_cid_lock(path.as_str())
 }
 
 /// Why a record in the file of this name cannot be kept.

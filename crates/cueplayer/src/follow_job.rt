@@ -15,7 +15,7 @@ use cmd_live::{Night, Pause, Silent};
 use devices::Link;
 use fade::{Fader, StepFader};
 use night_lines::{MainNight, Recording};
-use night_record::{RecordHead, UnfitMain, main_head};
+use night_record::{RecordHead, main_head};
 use remarks::{Failure, JobFault, Refusal};
 use std::cell::RefCell;
 use system_devices::{AppendedLines, CardSender, Network};
@@ -54,15 +54,7 @@ fn open_main<'a>(
     };
     match main_head(&night, first.as_slice()) {
         Ok(head) => Ok(Main { words, head, lines }),
-        Err(unfit) => Err(JobFault::Record(refusal_of(&unfit, &night))),
-    }
-}
-
-fn refusal_of(unfit: &UnfitMain, night: &RecordHead) -> Refusal {
-    match unfit {
-        UnfitMain::NoRecord => Refusal::no_main(),
-        UnfitMain::Other(difference, record) => Refusal::other(*difference, record, night),
-        UnfitMain::SameCid => Refusal::same_cid(),
+        Err(unfit) => Err(JobFault::Record(Refusal::of_unfit_main(&unfit, &night))),
     }
 }
 

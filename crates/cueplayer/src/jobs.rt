@@ -1,12 +1,11 @@
 ghost use Rattle.std.specs.Prelude.{◌≡◌, ◌≤◌, ◌<◌, ◌^◌, All, IfOk, length};
 ghost use Rattle.cmd_words.specs.Job.{IsJobInRange};
-ghost use Rattle.cueplayer.specs.Source.{source_name};
+ghost use Rattle.cmd_words.specs.Source.{source_name};
 
 use crate::cards::open_network;
 use crate::device_failure::{of_lock_fault, of_socket, of_socket_fault};
 use crate::live_job::{LiveWords, MainWords, play_live};
 use crate::reading::{file_text, script_text, show_text, suitable_show};
-use crate::source_name::source_name;
 use crate::standard::ask_for_standard;
 use cmd_cues::{cues, cues_json};
 use cmd_explain::{Weight, explain, seems, weigh};
@@ -15,10 +14,10 @@ use cmd_listen::{listen, watch};
 use cmd_play::{Setup, play};
 use cmd_rehearse::rehearse_text;
 use cmd_show::{check, look, slots};
-use cmd_words::{Job, Name, Night};
+use cmd_words::{Job, Name, Night, source_name};
 use devices::Output;
 use fade::StepFader;
-use remarks::{Failure, JobFault, of_device, of_seeming, of_weight, plain};
+use remarks::{Failure, JobFault, LostPacket, of_seeming, of_weight, plain};
 use sacn_packet::SourceName;
 use sacn_source::Identity;
 use show_reader::read_show;
@@ -258,13 +257,14 @@ pub fn night_end(
         Ok(network) => network.failure(),
         Err(_) => None,
     };
-    match (answer, failure) {
-        (Err(fault @ RunFault::Lost(_)), Some((address, kind))) => Err(Failure {
-            fault,
-            remark: of_device(address.as_str(), kind),
+    let lost = match &failure {
+        Some((address, kind)) => Some(LostPacket {
+            address: address.as_str(),
+            kind: *kind,
         }),
-        (answer, _) => run_end(answer, show, output),
-    }
+        None => None,
+    };
+    answer.map_err(|fault| Failure::of_night(fault, show, lost, output))
 }
 
 // Prints a rehearsal through a buffer, since its lines are many.

@@ -3,25 +3,18 @@ ghost use Rattle.std.specs.Prelude.{[]};
 use crate::link_watch::LinkTeller;
 use crate::screen::Screen;
 use arrayvec::ArrayVec;
-use ascii_text::{Words, moment};
 use cmd_live::{Booth, Heard};
 use devices::{Link, LinkFault};
 use live_input::Reason;
-use live_machine::{Came, NightClock, NightInput};
-use night_record::NightLines;
-use remarks::{Remark, push_shown};
+use live_machine::{Came, InputEnd, NightClock, NightInput};
+use night_lines::{input_ended_line, typed_end_line};
+use night_record::{NightLines, line_moment, where_moment};
+use remarks::refused_line;
 use std::time::Instant;
 use system_devices::{Keyboard, Record, SystemClock};
 
-// Told where the input ends and the night goes on.
-const INPUT_ENDED: &[u8] = b"input ended: the light holds; SIGTERM to the program ends the night \
-    (--end-with-input ends it with its input)\n";
-
-// An `end` that was typed before the input ended is given within so many milliseconds, since the
-// light goes down first. Then the night does not go on, and the end of its input is not told.
-const PATIENCE: u64 = 250;
-
-const TYPED_END: &[u8] = b"type end to end the night\n";
+// Why a line that is typed while the night follows a main is refused.
+const MAIN_LEADS: &str = "the main leads; take ends the following";
 
 /// Where a night is run from on this machine: the clock, standard input, the record and the screen.
 /// It does not tell what it did.
@@ -30,8 +23,7 @@ pub struct LiveBooth<'a> {
     rt: &'a HostRuntime,
     clock: NightClock<SystemClock<'a>>,
     input: NightInput<Keyboard<'a>>,
-    // When the input ended, until that is told.
-    input_ended: Option<u64>,
+    input_end: InputEnd,
     record: Record,
     screen: Screen,
     watch: Option<LinkTeller<'a>>,
@@ -50,7 +42,7 @@ impl<'a> LiveBooth<'a> {
             rt,
             clock: NightClock::new(SystemClock::new(rt, start), 0),
             input,
-            input_ended: None,
+            input_end: InputEnd::new(),
             record: night_record,
             screen,
             watch: None,
@@ -76,7 +68,7 @@ impl<'a> LiveBooth<'a> {
 
     /// Keeps a line of a main's record: none is dropped where that may take time.
     pub fn keep_led(&mut self, line: &[u8], may_wait: bool) {
-        if let Some(led) = moment_in(&mut Words::new(line)) {
+        if let Some(led) = line_moment(line) {
             self.clock.start = led;
         }
         if may_wait {
@@ -99,12 +91,7 @@ impl<'a> LiveBooth<'a> {
 
     /// Tells that a line which was typed while the night follows a main is not carried out.
     pub fn refuse_led(&mut self, text: &[u8]) {
-        let mut line = Remark::new();
-        push_shown(&mut line, b"line refused: ");
-        push_shown(&mut line, text);
-        push_shown(&mut line, b": the main leads; take ends the following");
-        let _ = line.try_push(b'\n');
-        self.screen.tell(line.as_slice());
+        self.screen.tell(refused_line(text, MAIN_LEADS).as_slice());
     }
 
     /// The night goes on by itself from now on, with this that was typed and is not answered yet.
@@ -122,18 +109,8 @@ impl<'a> LiveBooth<'a> {
 
     // Tells once that the night goes on without its input.
     fn tell_input_ended(&mut self, moment: u64) {
-        if let Some(ended) = self.input_ended
-            && moment.saturating_sub(ended) >= PATIENCE
-        {
-            self.input_ended = None;
-            self.screen.tell(INPUT_ENDED);
-        }
-    }
-
-    // The input ended at this moment.
-    fn end_input(&mut self, moment: u64) {
-        if !self.input.ends_night {
-            self.input_ended = Some(moment);
+        if self.input_end.is_told(moment) {
+            self.screen.tell(input_ended_line().as_bytes());
         }
     }
 }
@@ -169,12 +146,13 @@ impl Booth for LiveBooth<'_> {
         match self.input.hear(moment, due, block)? {
             Came::Bytes(count) => Ok(Heard::Bytes(count)),
             Came::TypedEnd => {
-                self.screen.tell(TYPED_END);
+                self.screen.tell(typed_end_line().as_bytes());
                 Ok(Heard::Nothing)
             }
             Came::End => {
-                self.end_input(moment);
-                Ok(Heard::End(self.input.ends_night))
+                let ends_night = self.input.ends_night;
+                self.input_end.come(moment, ends_night);
+                Ok(Heard::End(ends_night))
             }
             Came::Nothing => Ok(Heard::Nothing),
         }
@@ -182,17 +160,13 @@ impl Booth for LiveBooth<'_> {
 
     fn keep<L: Link>(&mut self, line: &[u8], _link: &L) -> Result<(), LinkFault> {
         self.record.keep(line, self.screen.messages());
-        if line.ends_with(b" end\n") {
-            self.input_ended = None;
-        }
+        self.input_end.pass_line(line);
         Ok(())
     }
 
     fn show<L: Link>(&mut self, line: &[u8], _link: &L) -> Result<(), LinkFault> {
         self.screen.show(line);
-        let mut words = Words::new(line);
-        if let Some(moment) = moment_in(&mut words)
-            && words.next() == Some(b"where")
+        if let Some(moment) = where_moment(line)
             && let Some(watch) = &self.watch
         {
             watch.tell_again(self.rt, moment, &mut self.screen);
@@ -201,21 +175,10 @@ impl Booth for LiveBooth<'_> {
     }
 
     fn refuse(&mut self, text: &[u8], why: Reason) {
-        let mut line = ArrayVec::<u8, 320>::new();
-        let _ = line.try_extend_from_slice(b"line refused: ");
-        let _ = line.try_extend_from_slice(text);
-        let _ = line.try_extend_from_slice(b": ");
-        let _ = line.try_extend_from_slice(why.text().as_bytes());
-        let _ = line.try_extend_from_slice(b"\n");
-        self.screen.tell(line.as_slice());
+        self.screen.tell(refused_line(text, why.text()).as_slice());
     }
 
     fn ignore_keys(&mut self) {
         self.screen.tell(b"keys ignored\n");
     }
-}
-
-// The moment before the words of a line.
-fn moment_in(words: &mut Words<'_>) -> Option<u64> {
-    moment(words.next()?)
 }

@@ -3,12 +3,13 @@ use crate::device_failure::{of_device_fault, of_lock_fault, of_record};
 use crate::jobs::{NO_LOCK, run_end};
 use crate::live_booth::LiveBooth;
 use crate::live_job::{LiveWords, Playbill};
-use crate::opening::Opening;
+use crate::opening::opening_of;
 use crate::screen::Screen;
 use crate::standard::Standard;
 use crate::start_lines::StartLines;
 use live_machine::NightInput;
 use night_lines::{Place, Recording};
+use night_record::NightOpening;
 use remarks::{Failure, JobFault};
 use std::cell::RefCell;
 use std::time::Instant;
@@ -25,7 +26,7 @@ pub struct LiveDevices {
     screen: Screen,
     record: Option<RecordFile>,
     /// How the record begins, or goes on.
-    pub opening: Opening,
+    pub opening: NightOpening,
     lock: Option<CidLock>,
     network: Network,
 }
@@ -59,10 +60,10 @@ impl LiveDevices {
                 Some(record.map_err(|fault| of_record(name, fault))?)
             }
         };
-        let none = Opening::none();
+        let none = NightOpening::none();
         let mut devices = LiveDevices::with_record(rt, bill, standard, record, none)?;
         if let Some(record) = &devices.record {
-            devices.opening = Opening::of(rt, bill, record.text())?;
+            devices.opening = opening_of(rt, bill, record.text())?;
         }
         Ok(devices)
     }
@@ -77,7 +78,7 @@ impl LiveDevices {
         bill: &Playbill<'_, '_>,
         standard: Standard,
         record: Option<RecordFile>,
-        opening: Opening,
+        opening: NightOpening,
     ) -> Result<Self, JobFault> {
         let Standard { input, messages } = standard;
         let screen = Screen::new(rt, messages).map_err(of_device_fault)?;
@@ -166,8 +167,8 @@ impl LiveDevices {
         Some(Recording {
             file: words.record_file?,
             resumes: words.resumes,
-            place: self.opening.goes_on().then_some(place),
-            is_cut: record.length() > self.opening.to as u64,
+            place: self.opening.lines.goes_on().then_some(place),
+            is_cut: self.opening.lines.has_cut_line(record.length()),
         })
     }
 }
@@ -177,10 +178,10 @@ impl LiveDevices {
 fn pause_before(
     rt: &HostRuntime,
     record: Option<&RecordFile>,
-    opening: &Opening,
+    opening: &NightOpening,
 ) -> Result<Pause, Failure> {
     match record.and_then(RecordFile::pause) {
-        Some(pause) if opening.goes_on() => Ok(pause),
+        Some(pause) if opening.lines.goes_on() => Ok(pause),
         _ => Ok(Pause {
             until: now(rt)?,
             milliseconds: 0,
@@ -193,13 +194,13 @@ fn begin_record(
     rt: &HostRuntime,
     words: LiveWords<'_>,
     record: Option<RecordFile>,
-    opening: &Opening,
+    opening: &NightOpening,
     screen: &mut Screen,
 ) -> Result<Record, JobFault> {
     let (Some(file), Some(name)) = (record, words.record_file) else {
         return Ok(Record::none());
     };
-    let kept = file.keep_lines(rt, opening.to);
+    let kept = file.keep_lines(rt, opening.lines.to);
     let mut record = kept.map_err(|fault| of_record(name, fault))?;
     if let Some(head) = &opening.head {
         record.keep(head.as_slice(), screen.messages());

@@ -1,7 +1,6 @@
 use crate::live_job::LiveWords;
 use crate::reading::{HEAD_PATIENCE, record_lines};
-use crate::source_name::name_on;
-use cmd_words::Name;
+use cmd_words::{Name, name_on};
 use night_record::{HeadName, RecordHead};
 use std::alloc::AllocError;
 use std::fs::metadata;

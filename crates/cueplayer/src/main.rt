@@ -16,7 +16,6 @@ mod opening;
 mod own_record;
 mod reading;
 mod screen;
-mod source_name;
 mod spare_job;
 mod standard;
 mod start_lines;

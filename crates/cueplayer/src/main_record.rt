@@ -2,13 +2,11 @@ ghost use Rattle.std.specs.Prelude.{[]};
 
 use crate::live_booth::LiveBooth;
 use crate::live_job::MainWords;
-use arrayvec::{ArrayString, ArrayVec};
-use cmd_live::{Backup, Ending, Led, MainConsole, MainWatch};
+use cmd_live::{Backup, Led, MainConsole, MainWatch};
 use devices::LinkFault;
 use live_machine::Came;
-use night_lines::clock_text;
-use night_record::{LineFront, NightLines, leading_moment, silence_of};
-use std::fmt::Write;
+use night_lines::{leading_line, led_help_line, led_reminder_line, missing_line, over_line};
+use night_record::{LineFront, NightLines, kept_line, leading_moment, silence_of};
 use std::time::{Duration, Instant};
 use system_devices::AppendedLines;
 
@@ -18,14 +16,6 @@ const TURN: u64 = 5;
 
 // The head of a record is two lines.
 const HEAD_LINES: u64 = 2;
-
-const HELP: &[u8] = b"take: from now on this console leads; where: the current cue, the next one, \
-    and what masters are at\n";
-
-const TYPED_END: &[u8] = b"the main leads; take ends the following\n";
-
-const MISSING: &[u8] =
-    b"the main's record: lines are missing, so its look and this one may differ: ";
 
 /// The record of a main as it grows, and what is typed meanwhile. The lines that stand in it at the
 /// start come first, and then an end, so that they can be carried out over no link.
@@ -94,14 +84,11 @@ impl<'a> MainRecord<'a> {
     /// Tells at this moment of the night that it goes on by itself, and answers how long the newest
     /// line has been there, in milliseconds.
     pub fn lead(&mut self, moment: u64, now: Instant) -> u64 {
-        let why = match self.backup.ending {
-            Ending::Taken => "the following was ended",
-            Ending::Silent => "the main is silent",
-            Ending::Gone => "the main's record is gone",
-        };
+        let why = self.backup.ending.words();
         let watch = &mut self.backup.watch;
         let passed = silence_of(now.duration_since(watch.last));
-        watch.tell_at(leading_moment(moment, passed), why, ": goes on by itself");
+        let line = leading_line(leading_moment(moment, passed), why);
+        watch.booth.screen().tell(line.as_str().as_bytes());
         let rest = watch.typed.rest();
         watch.booth.lead(now, rest, watch.input_ended);
         passed
@@ -109,17 +96,8 @@ impl<'a> MainRecord<'a> {
 
     /// Tells that the main has ended the night.
     pub fn tell_over(&mut self, moment: u64) {
-        self.backup
-            .watch
-            .tell_at(moment, "the main has ended the night", "");
-    }
-}
-
-impl WatchedMain<'_> {
-    fn tell_at(&mut self, moment: u64, what: &str, then: &str) {
-        let mut line = ArrayString::<120>::new();
-        let _ = writeln!(line, "{} {what}{then}", clock_text(moment).as_str());
-        self.booth.screen().tell(line.as_str().as_bytes());
+        let line = over_line(moment);
+        self.booth().screen().tell(line.as_str().as_bytes());
     }
 }
 
@@ -174,17 +152,11 @@ impl MainWatch for WatchedMain<'_> {
     }
 
     fn keep(&mut self, line: &LineFront) {
-        let mut kept = ArrayVec::<u8, 202>::new();
-        let _ = kept.try_extend_from_slice(line.as_slice());
-        let _ = kept.try_push(b'\n');
-        self.booth.keep_led(kept.as_slice(), !self.has_begun);
+        self.booth.keep_led(kept_line(line).as_slice(), !self.has_begun);
     }
 
     fn tell_missing(&mut self, line: &LineFront) {
-        let mut told = ArrayVec::<u8, 320>::new();
-        let _ = told.try_extend_from_slice(MISSING);
-        let _ = told.try_extend_from_slice(line.as_slice());
-        let _ = told.try_push(b'\n');
+        let told = missing_line(line.as_slice());
         self.booth.screen().tell(told.as_slice());
     }
 
@@ -193,11 +165,11 @@ impl MainWatch for WatchedMain<'_> {
     }
 
     fn help(&mut self) {
-        self.booth.screen().show(HELP);
+        self.booth.screen().show(led_help_line().as_bytes());
     }
 
     fn remind(&mut self) {
-        self.booth.screen().tell(TYPED_END);
+        self.booth.screen().tell(led_reminder_line().as_bytes());
     }
 }
 

@@ -5,13 +5,13 @@ ghost use Rattle.cmd_live.specs.Stands.{StandsFor};
 ghost use Rattle.cueplayer.specs.Opening.{CanFollow, IsPlayable};
 
 use crate::live_job::{LiveWords, Playbill};
-use crate::source_name::source_name;
 use arrayvec::ArrayString;
 use cmd_faults::RunFault;
 use cmd_live::{Night, Silent};
+use cmd_words::source_name;
 use fade::Fader;
 use jiff::Timestamp;
-use night_record::{HeadLines, HeadName, RecordHead, RecordOpening, TakenUp, Unfit};
+use night_record::{HeadName, NightOpening, RecordHead};
 use remarks::{Failure, JobFault, Refusal};
 use sha2::{Digest, Sha256};
 use std::fmt::Write;
@@ -19,70 +19,20 @@ use std::fmt::Write;
 // So many lines of a record are its head.
 const HEAD_LINES: u64 = 2;
 
-/// What of a record a night goes on behind, and how it begins one.
-#[derive(Drop)]
-pub struct Opening {
-    /// The first lines of a record that begins.
-    pub head: Option<HeadLines>,
-    /// The lines of a night that goes on stand from here..
-    from: usize,
-    /// ..to here. What stands behind them is a line that was cut.
-    pub to: usize,
-}
-
-impl Opening {
-    /// Without a record.
-    pub fn none() -> Opening {
-        Opening::behind(0)
-    }
-
-    /// Behind so many bytes of a record, which has lines of a night.
-    pub fn behind(taken: usize) -> Opening {
-        Opening {
-            head: None,
-            from: 0,
-            to: taken,
-        }
-    }
-
-    /// By what stands in a record.
-    ///
-    /// # Errors
-    ///
-    /// Where that is of another night, or of none; or where the clock cannot be read.
-    pub fn of(rt: &HostRuntime, bill: &Playbill<'_, '_>, text: &[u8]) -> Result<Opening, JobFault> {
-        let night = head_of(rt, bill)?;
-        match RecordOpening::of(&night, text) {
-            Ok(RecordOpening::Begins) => Ok(Opening {
-                head: Some(night.lines()),
-                from: 0,
-                to: 0,
-            }),
-            Ok(RecordOpening::GoesOn(TakenUp { from, to })) => Ok(Opening {
-                head: None,
-                from,
-                to,
-            }),
-            Err(unfit) => Err(JobFault::Record(refusal_of(&unfit, &night))),
-        }
-    }
-
-    // The lines of the night that goes on.
-    fn lines<'t>(&self, text: &'t [u8]) -> &'t [u8] {
-        text.get(self.from..self.to).unwrap_or(&[])
-    }
-
-    /// Whether a night goes on: there are lines of it.
-    pub fn goes_on(&self) -> bool {
-        self.from < self.to
-    }
-}
-
-/// Why a night does not go on in its record.
-pub fn refusal_of(unfit: &Unfit, night: &RecordHead) -> Refusal {
-    match unfit {
-        Unfit::NoRecord => Refusal::no_record(),
-        Unfit::Other(difference, record) => Refusal::other(*difference, record, night),
+/// How a night begins or goes on by what stands in its record.
+///
+/// # Errors
+///
+/// Where that is of another night, or of none; or where the clock cannot be read.
+pub fn opening_of(
+    rt: &HostRuntime,
+    bill: &Playbill<'_, '_>,
+    text: &[u8],
+) -> Result<NightOpening, JobFault> {
+    let night = head_of(rt, bill)?;
+    match NightOpening::of(&night, text) {
+        Ok(opening) => Ok(opening),
+        Err(unfit) => Err(JobFault::Record(Refusal::of_unfit(&unfit, &night))),
     }
 }
 
@@ -94,13 +44,15 @@ pub fn refusal_of(unfit: &Unfit, night: &RecordHead) -> Refusal {
 pub fn open_night<F: Fader>(
     rt: &HostRuntime,
     bill: &Playbill<'_, '_>,
-    opening: &Opening,
+    opening: &NightOpening,
     text: &[u8],
 ) -> Result<Night<F>, JobFault>
     ensures playable { IfOk result (λ night. IsPlayable F.stands_for night) }
 {
     match Night::<F>::open(rt.alloc(), bill.show, bill.source, bill.night.base) {
-        Ok(night) if opening.goes_on() => go_on(night, bill.words, opening.lines(text), text),
+        Ok(night) if opening.lines.goes_on() => {
+            go_on(night, bill.words, opening.lines.of_text(text), text)
+        }
         Ok(night) => begin(night, bill),
         Err(fault) => Err(run_fault(fault, bill.show)),
     }

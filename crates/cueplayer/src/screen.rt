@@ -1,9 +1,7 @@
-use arrayvec::ArrayString;
-use line_queue::Notice;
-use std::fmt::Write;
-use std::fs::Metadata;
+use line_queue::{
+    GivenBytes, Notice, OutputNotice, OutputWatch, WrittenFiles, outputs_owed_line, owed_by_outputs,
+};
 use std::io::Stdout;
-use std::os::unix::fs::MetadataExt;
 use system_devices::{BoundedOutput, DeviceFault, Messages, Names, PipedOutput, wait_for_writers};
 
 const NAMES: Names = Names {
@@ -15,24 +13,15 @@ const NAMES: Names = Names {
     },
 };
 
-// The bytes in the files of standard output and standard error that other processes write. Where
-// both are one file, the output has all of them.
-#[derive(Clone, Copy)]
-struct FileLengths {
-    output: u64,
-    error: u64,
-    is_one_file: bool,
-}
-
 /// What the operator of a night sees: replies on standard output, and messages on standard error.
 /// They hold nobody up, and a reader of replies that has gone is told of once.
 #[derive(Drop)]
 pub struct Screen {
     replies: BoundedOutput<Stdout>,
     messages: Messages,
-    is_failure_told: bool,
-    // Those before the night.
-    before: FileLengths,
+    watch: OutputWatch,
+    // Its files before the night.
+    before: WrittenFiles,
 }
 
 impl Screen {
@@ -41,11 +30,11 @@ impl Screen {
     /// As those of [`BoundedOutput::new`].
     pub fn new(rt: &HostRuntime, messages: Messages) -> Result<Self, DeviceFault> {
         let replies = BoundedOutput::new(rt, rt.stdout(), NAMES)?;
-        let before = lengths(replies.written_file(rt), messages.written_file(rt));
+        let before = written_files(rt, &replies, &messages);
         Ok(Screen {
             replies,
             messages,
-            is_failure_told: false,
+            watch: OutputWatch::default(),
             before,
         })
     }
@@ -82,16 +71,13 @@ impl Screen {
         self.messages.finish();
         let left = wait_for_writers(rt, self);
         if left > 0 {
-            let mut text = ArrayString::<80>::new();
-            let _ = writeln!(text, "outputs: {left} bytes are still with their writers");
-            self.messages.tell(text.as_str().as_bytes());
+            self.messages.tell(outputs_owed_line(left).as_str().as_bytes());
             self.messages.finish();
         }
     }
 
     fn tell_failure(&mut self) {
-        if self.replies.failure().is_some() && !self.is_failure_told {
-            self.is_failure_told = true;
+        if self.watch.look(self.replies.look()) == Some(OutputNotice::Failed) {
             self.messages.tell(b"replies: device fault\n");
         }
     }
@@ -99,39 +85,22 @@ impl Screen {
 
 impl PipedOutput for Screen {
     fn unwritten_bytes(&self, rt: &HostRuntime) -> u64 {
-        let now = lengths(
-            self.replies.written_file(rt),
-            self.messages.written_file(rt),
-        );
-        let replies = self
-            .before
-            .output
-            .saturating_add(self.replies.piped_bytes());
-        let told = self.messages.piped_bytes();
-        if now.is_one_file {
-            return replies.saturating_add(told).saturating_sub(now.output);
-        }
-        let told = self.before.error.saturating_add(told);
-        let told = told.saturating_sub(now.error);
-        told.saturating_add(replies.saturating_sub(now.output))
+        let given = GivenBytes {
+            output: self.replies.piped_bytes(),
+            error: self.messages.piped_bytes(),
+        };
+        let now = written_files(rt, &self.replies, &self.messages);
+        owed_by_outputs(self.before, given, now)
     }
 }
 
-fn lengths(output: Option<Metadata>, error: Option<Metadata>) -> FileLengths {
-    let is_one_file = match (&output, &error) {
-        (Some(output), Some(error)) => output.dev() == error.dev() && output.ino() == error.ino(),
-        _ => false,
-    };
-    FileLengths {
-        output: length(output),
-        error: if is_one_file { 0 } else { length(error) },
-        is_one_file,
-    }
-}
-
-fn length(file: Option<Metadata>) -> u64 {
-    match file {
-        Some(file) => file.len(),
-        None => 0,
+fn written_files(
+    rt: &HostRuntime,
+    replies: &BoundedOutput<Stdout>,
+    messages: &Messages,
+) -> WrittenFiles {
+    WrittenFiles {
+        output: replies.written_file(rt),
+        error: messages.written_file(rt),
     }
 }

@@ -4,13 +4,13 @@ ghost use Rattle.cueplayer.specs.Opening.{CanFollow, IsPlayable};
 use crate::device_failure::of_record;
 use crate::live_devices::LiveDevices;
 use crate::live_job::{NightEnd, Playbill, lead};
-use crate::opening::{Opening, head_of, new_night, refusal_of};
+use crate::opening::{head_of, new_night};
 use crate::own_record::OwnRecord;
 use crate::reading::{HEAD_PATIENCE, record_lines};
 use crate::standard::Standard;
 use cmd_live::{Night, Pause, Silent};
 use fade::{Fader, StepFader};
-use night_record::own_head;
+use night_record::{NightOpening, own_head};
 use remarks::{JobFault, Refusal};
 use system_devices::RecordFile;
 
@@ -38,7 +38,7 @@ fn open_record<'a>(
         return Err(JobFault::Record(Refusal::no_record()));
     };
     if let Err(unfit) = own_head(&night, first.as_slice()) {
-        return Err(JobFault::Record(refusal_of(&unfit, &night)));
+        return Err(JobFault::Record(Refusal::of_unfit(&unfit, &night)));
     }
     let file = RecordFile::watch(rt, name).map_err(|fault| of_record(name, fault))?;
     Ok(OwnRecord::new(rt, name, lines, file))
@@ -61,7 +61,7 @@ fn stand_by<F: Fader>(
     // It goes on behind what was taken up.
     let name = record.name();
     let (file, taken) = record.into_file().map_err(|fault| of_record(name, fault))?;
-    let opening = Opening::behind(taken as usize);
+    let opening = NightOpening::behind(taken as usize);
     let devices = LiveDevices::with_record(rt, bill, standard, Some(file), opening)?;
     lead(rt, bill, devices, night)
 }

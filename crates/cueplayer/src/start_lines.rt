@@ -1,9 +1,8 @@
 use crate::network_lines::tell_network;
 use crate::screen::Screen;
-use crate::source_name::source_name;
 use cmd_explain::{seems, weigh};
 use cmd_faults::RunFault;
-use cmd_words::Night;
+use cmd_words::{Night, source_name};
 use night_lines::{
     MainNight, Recording, Transmission, contents_line, ending_line, main_line, no_record_line,
     record_line, sends_line, take_line,

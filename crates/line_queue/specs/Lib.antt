@@ -5,3 +5,4 @@ pub mod Stands
 pub mod Handing
 pub mod Kept
 pub mod Watches
+pub mod Owed

@@ -1,6 +1,6 @@
 -- What is told of an output that holds nobody up.
 use Rattle.std.specs.Prelude.{◌≡◌, ℕ, Bool, true, false, ◌&&◌, not, nat_eq, List, [], ◌∷◌}
-use Rattle.std.specs.Prelude.{All, Option, Some, None, if◌then◌else◌, is_some, ⊤}
+use Rattle.std.specs.Prelude.{All, codes, Option, Some, None, if◌then◌else◌, is_some, ⊤}
 use Rattle.line_queue.specs.Stands.{failure_in, gaps_in, is_late}
 use Rattle.line_queue.specs.declared.queue.LineQueue.{LineQueue}
 use Rattle.line_queue.specs.declared.watch.OutputLook.{OutputLook}
@@ -42,6 +42,14 @@ told_after told look =
       is_late = look.is_late;
       gaps = if told.is_late && not look.is_late then look.gaps else told.gaps;
     }
+
+-- what is told of a record
+abbrev pub record_notice : OutputNotice → List ℕ
+record_notice Failed = codes "record: device fault\n"
+record_notice Late = codes "record: late, and the light goes on\n"
+record_notice Whole = codes "record: whole again\n"
+record_notice Missing =
+    codes "record: goes on, and a comment in it says how many lines are missing\n"
 
 -- a notice more, where there is one
 abbrev pub before_notices : Option OutputNotice → List OutputNotice → List OutputNotice

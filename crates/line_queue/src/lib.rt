@@ -2,6 +2,8 @@
 //!
 //! A [`LineQueue`] takes lines and hands them on as far as its [`Pipe`] takes bytes at once. A line
 //! for which there is no room is dropped, and a [`Notice`] at its place says how many lines were.
+//! Where another process writes the output's file, [`owed_bytes`] are those that the file does not
+//! have yet, and [`wait_for_writers`] waits for them.
 //!
 //! ```
 //! let notice = Notice { mark: "! ", lines: "lines" };
@@ -13,13 +15,20 @@
 mod laws;
 mod memory;
 mod notice;
+mod owed;
 mod pipe;
 mod queue;
 mod watch;
+mod writers;
 
 pub use laws::notices_law;
 pub use memory::MemoryPipe;
 pub use notice::{Notice, NoticeText};
+pub use owed::{
+    GivenBytes, OwedLine, WrittenFile, WrittenFiles, outputs_owed_line, owed_by_outputs,
+    owed_bytes, record_owed_line,
+};
 pub use pipe::Pipe;
 pub use queue::LineQueue;
 pub use watch::{OutputLook, OutputNotice, OutputWatch};
+pub use writers::{Writers, wait_for_writers};

@@ -1,5 +1,5 @@
 ghost use Rattle.std.specs.Prelude.{◌≡◌};
-ghost use Rattle.line_queue.specs.Watches.{told_after, news_of_output};
+ghost use Rattle.line_queue.specs.Watches.{told_after, news_of_output, record_notice};
 
 /// How an output is at a look.
 #[derive(Clone, Copy, Debug, PartialEq, Eq)]
@@ -23,6 +23,22 @@ pub enum OutputNotice {
     Whole,
     /// It goes on, and lines are missing.
     Missing,
+}
+
+impl OutputNotice {
+    /// The line about a record.
+    pub fn record_line(self) -> &'static str
+        ensures { result.now ≡ record_notice self }
+    {
+        match self {
+            OutputNotice::Failed => "record: device fault\n",
+            OutputNotice::Late => "record: late, and the light goes on\n",
+            OutputNotice::Whole => "record: whole again\n",
+            OutputNotice::Missing => {
+                "record: goes on, and a comment in it says how many lines are missing\n"
+            }
+        }
+    }
 }
 
 /// What was told of an output.

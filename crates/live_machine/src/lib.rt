@@ -2,7 +2,8 @@
 //! did not do what it was asked for.
 //!
 //! A [`NightClock`] makes moments of what a [`MachineClock`] shows, and a [`NightInput`] says how
-//! long a [`MachineInput`] is waited for. Those of the system never tell what they gave; those over
+//! long a [`MachineInput`] is waited for. An [`InputEnd`] says when it is told that a night goes on
+//! without its input. Those of the system never tell what they gave; those over
 //! memory ([`memory`]) do, and stand in for them in tests.
 //!
 //! ```
@@ -16,8 +17,10 @@
 mod clock;
 mod failure;
 mod input;
+mod input_end;
 pub mod memory;
 
 pub use clock::{MachineClock, NightClock, clock_law};
 pub use failure::reason;
 pub use input::{Came, MachineInput, NightInput, TURN};
+pub use input_end::InputEnd;

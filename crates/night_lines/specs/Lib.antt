@@ -6,3 +6,4 @@ pub mod Sends
 pub mod Routes
 pub mod Notices
 pub mod OtherCards
+pub mod Led

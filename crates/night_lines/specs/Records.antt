@@ -53,3 +53,12 @@ abbrev pub ending_line : Bool → List ℕ
 ending_line is_interruptible =
     codes "end ends the night, leave leaves the light to others"
     ++ (if is_interruptible then [] else codes "; control-C does nothing") ++ codes "\n"
+
+-- that the input ended, and the night goes on
+abbrev pub input_ended_line : List ℕ
+input_ended_line = codes "input ended: the light holds; "
+    ++ codes "SIGTERM to the program ends the night (--end-with-input ends it with its input)\n"
+
+-- an end of the input that was typed ends nothing
+abbrev pub typed_end_line : List ℕ
+typed_end_line = codes "type end to end the night\n"

@@ -20,8 +20,11 @@ mod target_lines;
 use arrayvec::ArrayString;
 pub use clock::{ClockText, clock_text};
 pub use contents::{ContentsLine, contents_line};
-pub use ending::ending_line;
-pub use follow::{MainNight, main_line, take_line};
+pub use ending::{ending_line, input_ended_line, typed_end_line};
+pub use follow::{
+    FollowingLine, MainNight, leading_line, led_help_line, led_reminder_line, main_line,
+    missing_line, over_line, take_line,
+};
 pub use other_cards::{OtherCardsLine, other_cards_line};
 pub use path_notices::{Way, path_notice_line};
 pub use place::Place;

@@ -7,3 +7,6 @@ pub mod Silence
 pub mod Head
 pub mod Difference
 pub mod Reading
+pub mod Moments
+pub mod HeadWait
+pub mod NightOpening

@@ -1,4 +1,4 @@
-ghost use Rattle.std.specs.Prelude.{◌≡◌, ◌++◌, ◌∷◌, Some, None, MatchOption};
+ghost use Rattle.std.specs.Prelude.{◌≡◌, ◌++◌, ◌∷◌, [], Some, None, MatchOption};
 ghost use Rattle.night_record.specs.Opening.{head_in};
 
 use crate::lines::LineFront;
@@ -31,4 +31,14 @@ pub fn first_lines(first: &LineFront, second: &LineFront) -> FirstLines
     let _ = lines.try_push(b'\n');
     let _ = lines.try_extend_from_slice(second.as_slice());
     lines
+}
+
+/// A line as it is kept in a record, with its LF.
+pub fn kept_line(line: &LineFront) -> ArrayVec<u8, 202>
+    ensures { result.items ≡ line.now.items ++ 10 ∷ [] }
+{
+    let mut kept = ArrayVec::new();
+    let _ = kept.try_extend_from_slice(line.as_slice());
+    let _ = kept.try_push(b'\n');
+    kept
 }

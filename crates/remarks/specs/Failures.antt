@@ -6,6 +6,7 @@ use Rattle.cmd_faults.specs.declared.fault.RunFault.TheVariants as run
 use Rattle.remarks.specs.Remarks.{of_device, remark_of}
 use Rattle.remarks.specs.TextLines.{of_line, setup_remark, show_remark}
 use Rattle.remarks.specs.declared.failure.Failure.{Failure}
+use Rattle.remarks.specs.declared.failure.LostPacket.{LostPacket}
 
 -- a failure has this fault, and this remark
 pub record Fails (why : RunFault) (text : List ℕ) (failure : Failure) : Type 0 where
@@ -40,6 +41,16 @@ of_run run.Base show output =
 of_run (run.Line line) show output = remark_of (input_rule ∷ [])
 of_run run.Device show output = of_standard output
 of_run _ show output = []
+
+-- a night over this show; of packets that were lost, the last is told of
+abbrev pub of_night : RunFault → List ℕ → Option LostPacket → Option ErrorKind → List ℕ
+of_night (run.Lost count) show (Some lost) output = of_device lost.address.now lost.kind
+of_night fault show lost output = of_run fault show output
+
+-- another console has the lock of a night's CID, in a file
+abbrev pub of_cid_lock : List ℕ → List ℕ
+of_cid_lock file = remark_of
+    (codes "another console on this machine sends under this CID, by " ∷ file ∷ [])
 
 -- a watch
 abbrev pub of_watch : RunFault → Option ErrorKind → List ℕ

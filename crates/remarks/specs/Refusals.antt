@@ -5,7 +5,11 @@ use Rattle.uuid.specs.Text.{hyphenated_text, lower}
 use Rattle.night_record.specs.declared.head.RecordHead.{RecordHead}
 use Rattle.night_record.specs.declared.difference.Difference.{Difference}
 use Rattle.night_record.specs.declared.difference.Difference.TheVariants as part
-use Rattle.remarks.specs.Remarks.{shown_name}
+use Rattle.night_record.specs.declared.unfit.Unfit.{Unfit}
+use Rattle.night_record.specs.declared.unfit.Unfit.TheVariants as own
+use Rattle.night_record.specs.declared.unfit.UnfitMain.{UnfitMain}
+use Rattle.night_record.specs.declared.unfit.UnfitMain.TheVariants as main
+use Rattle.remarks.specs.Remarks.{remark_of, shown_name}
 use Rattle.remarks.specs.declared.refusal.Refusal.{Refusal}
 
 -- the line of a refusal
@@ -28,6 +32,14 @@ record_rule = codes "a night goes on in a file that live began: its first line s
 -- what a night would follow
 abbrev pub main_rule : List ℕ
 main_rule = codes "a main's record is one that live keeps: its first line says whose it is"
+
+-- a main that sends under the CID of the night
+abbrev pub same_cid : List ℕ
+same_cid = codes "the same cid as --cid: a backup has a CID of its own"
+
+-- where another CID comes from
+abbrev pub cid_rule : List ℕ
+cid_rule = codes "uuidgen prints one"
 
 -- a night that has ended
 abbrev pub over : List ℕ
@@ -103,3 +115,16 @@ other_parts part.Priority head night =
     number_parts (codes "--priority ") head.priority night.priority
 other_parts part.Base head night = number_parts (codes "--base ") head.base night.base
 other_parts part.Name head night = name_parts head night
+
+-- why a night does not go on in its own record
+abbrev pub IsUnfit : Unfit → RecordHead → Refusal → Type 0
+IsUnfit own.NoRecord night refusal = Rejects no_record (remark_of (record_rule ∷ [])) refusal
+IsUnfit (own.Other part head) night refusal =
+    Rejects (other_line part) (remark_of (other_parts part head night)) refusal
+
+-- and why it does not follow the record of a main
+abbrev pub IsUnfitMain : UnfitMain → RecordHead → Refusal → Type 0
+IsUnfitMain main.NoRecord night refusal = Rejects no_record (remark_of (main_rule ∷ [])) refusal
+IsUnfitMain (main.Other part head) night refusal =
+    Rejects (other_line part) (remark_of (other_parts part head night)) refusal
+IsUnfitMain main.SameCid night refusal = Rejects same_cid (remark_of (cid_rule ∷ [])) refusal

@@ -1,5 +1,5 @@
 -- What is told behind the line of a fault.
-use Rattle.std.specs.Prelude.{ℕ, List, [], ◌∷◌, ◌&&◌, codes, flat_map, if◌then◌else◌, map, nat_le}
+use Rattle.std.specs.Prelude.{ℕ, List, [], ◌∷◌, ◌++◌, ◌&&◌, codes, flat_map, if◌then◌else◌, map, nat_le}
 use Rattle.std.specs.Prelude.{take}
 use Rattle.std.specs.Str.{chars}
 use Rattle.std.specs.declared.io.ErrorKind.{ErrorKind}
@@ -31,3 +31,8 @@ of_device name kind = remark_of (name ∷ codes ": " ∷ words_for kind ∷ [])
 abbrev pub of_seeming : List ℕ → List ℕ
 of_seeming what = remark_of (codes "the show has no cue, and its file seems to be "
     ∷ what ∷ codes ": check the file's name and how it was saved" ∷ [])
+
+-- a line that was typed is not carried out, and why: of each at most 200 bytes are shown
+abbrev pub refused_line : List ℕ → List ℕ → List ℕ
+refused_line text why =
+    remark_of (codes "line refused: " ∷ text ∷ codes ": " ∷ why ∷ []) ++ codes "\n"

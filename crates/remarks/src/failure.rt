@@ -2,11 +2,12 @@ ghost use Rattle.std.specs.Prelude.{◌≡◌, [], ◌∷◌, codes};
 ghost use Rattle.cmd_faults.specs.Runs as runs;
 ghost use Rattle.cmd_faults.specs.declared.fault.RunFault.TheVariants as run;
 ghost use Rattle.remarks.specs.Remarks.{of_device, remark_of};
-ghost use Rattle.remarks.specs.Failures.{Fails, of_rehearsal, of_run, of_standard, of_watch};
+ghost use Rattle.remarks.specs.Failures.{Fails, of_cid_lock, of_night, of_rehearsal, of_run};
+ghost use Rattle.remarks.specs.Failures.{of_standard, of_watch};
 ghost use Rattle.remarks.specs.declared.failure.JobFault.TheVariants as job;
 
 use crate::refusal::Refusal;
-use crate::remark::{Remark, of_device, plain};
+use crate::remark::{Remark, join, of_device, part, plain};
 use crate::text_line::{of_line, of_setup, of_show};
 use cmd_faults::RunFault;
 use show_reader::ShowFault;
@@ -25,6 +26,14 @@ const SCRIPT_LINE: &str = "console BASE PRIORITY UUID, receiver UNIVERSE, \
 pub struct Failure {
     pub fault: RunFault,
     pub remark: Remark,
+}
+
+/// A packet that the system did not take.
+#[derive(Clone, Copy, Debug)]
+pub struct LostPacket<'a> {
+    /// Where it was to go.
+    pub address: &'a str,
+    pub kind: ErrorKind,
 }
 
 impl Failure {
@@ -63,6 +72,33 @@ impl Failure {
         Failure {
             fault,
             remark: of_run(fault, show, output),
+        }
+    }
+
+    /// A night over this show. Of packets that were lost, the last is told of.
+    pub fn of_night(
+        fault: RunFault,
+        show: &[u8],
+        lost: Option<LostPacket<'_>>,
+        output: Option<ErrorKind>,
+    ) -> Failure
+        ensures { Fails fault (of_night fault show.now lost.entry output) result }
+    {
+        let remark = match (fault, lost) {
+            (RunFault::Lost(_), Some(lost)) => of_device(lost.address, lost.kind),
+            _ => of_run(fault, show, output),
+        };
+        Failure { fault, remark }
+    }
+
+    /// Another console on this machine sends under the CID of a night, by a lock in this file.
+    pub fn of_cid_lock(file: &str) -> Failure
+        ensures { Fails run.Device (of_cid_lock file.now) result }
+    {
+        let words: &[u8] = b"another console on this machine sends under this CID, by ";
+        Failure {
+            fault: RunFault::Device,
+            remark: join(&[words, part(file)]),
         }
     }
 

@@ -21,11 +21,11 @@ mod text_line;
 mod weight;
 
 pub use card::{DownCards, of_card, of_route};
-pub use failure::{Failure, JobFault};
+pub use failure::{Failure, JobFault, LostPacket};
 pub use misfit::of_misfit;
 pub use name::{NameText, of_name};
 pub use refusal::{Refusal, RefusalLine};
-pub use remark::{Remark, join, of_device, of_seeming, plain, push_shown};
+pub use remark::{Remark, join, of_device, of_seeming, plain, push_shown, refused_line};
 pub use target::of_target;
 pub use text_line::{of_line, of_setup, of_show};
 pub use weight::of_weight;

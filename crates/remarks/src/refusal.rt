@@ -1,10 +1,12 @@
 ghost use Rattle.std.specs.Prelude.{◌≡◌, ◌≤◌, ◌+◌, ◌++◌, [], ◌∷◌, codes, length};
 ghost use Rattle.hex.specs.Hex.{encode_lower};
 ghost use Rattle.remarks.specs.Remarks.{remark_of};
-ghost use Rattle.remarks.specs.Refusals.{Rejects, cid_parts, has_night, in_use, line_rule};
+ghost use Rattle.remarks.specs.Refusals.{IsUnfit, IsUnfitMain, Rejects, cid_parts, cid_rule};
+ghost use Rattle.remarks.specs.Refusals.{has_night, in_use, line_rule};
 ghost use Rattle.remarks.specs.Refusals.{main_line_rule, main_rule, name_parts, no_record};
 ghost use Rattle.remarks.specs.Refusals.{number_parts, other_line, other_parts, over, record_rule};
-ghost use Rattle.remarks.specs.Refusals.{refusal_line, show_parts, spare_line_rule, unlike_line};
+ghost use Rattle.remarks.specs.Refusals.{refusal_line, same_cid, show_parts, spare_line_rule};
+ghost use Rattle.remarks.specs.Refusals.{unlike_line};
 ghost use Rattle.remarks.specs.TextLines.{of_line};
 
 use crate::name::of_name;
@@ -12,7 +14,7 @@ use crate::remark::{Remark, join, part, plain};
 use crate::text_line::of_line;
 use arrayvec::ArrayString;
 use itoa::Buffer;
-use night_record::{Difference, RecordHead};
+use night_record::{Difference, RecordHead, Unfit, UnfitMain};
 use uuid::Uuid;
 
 const OTHER_FILE: &[u8] = b", or another FILE";
@@ -55,8 +57,7 @@ impl Refusal {
 
     /// The main that was to be followed sends under the CID of this night.
     pub fn same_cid() -> Refusal
-        ensures { Rejects (codes "the same cid as --cid: a backup has a CID of its own")
-            (remark_of (codes "uuidgen prints one" ∷ [])) result }
+        ensures { Rejects same_cid (remark_of (cid_rule ∷ [])) result }
     {
         Refusal {
             line: line_of(
@@ -76,6 +77,27 @@ impl Refusal {
         Refusal {
             line: line_of("the night has ended", "", ""),
             remark: plain("a backup follows a night that is on"),
+        }
+    }
+
+    /// Why a night does not go on in its own record.
+    pub fn of_unfit(unfit: &Unfit, night: &RecordHead) -> Refusal
+        ensures { IsUnfit unfit.now night.now result }
+    {
+        match unfit {
+            Unfit::NoRecord => Refusal::no_record(),
+            Unfit::Other(difference, head) => Refusal::other(*difference, head, night),
+        }
+    }
+
+    /// Why a night does not follow the record of a main.
+    pub fn of_unfit_main(unfit: &UnfitMain, night: &RecordHead) -> Refusal
+        ensures { IsUnfitMain unfit.now night.now result }
+    {
+        match unfit {
+            UnfitMain::NoRecord => Refusal::no_main(),
+            UnfitMain::Other(difference, head) => Refusal::other(*difference, head, night),
+            UnfitMain::SameCid => Refusal::same_cid(),
         }
     }
 

@@ -1,6 +1,6 @@
 ghost use Rattle.std.specs.Prelude.{◌≡◌, ◌++◌, [], ◌∷◌, codes, map, take};
 ghost use Rattle.cmd_explain.specs.Skipped.{display_byte, display_text};
-ghost use Rattle.remarks.specs.Remarks.{excerpt, of_device, of_seeming, remark_of};
+ghost use Rattle.remarks.specs.Remarks.{excerpt, of_device, of_seeming, refused_line, remark_of};
 
 use arrayvec::ArrayVec;
 use live_machine::reason;
@@ -52,6 +52,29 @@ pub fn of_seeming(what: &str) -> Remark
         part(what),
         b": check the file's name and how it was saved",
     ])
+}
+
+/// The line that tells that a typed line is not carried out, and why.
+pub fn refused_line(text: &[u8], why: &str) -> ArrayVec<u8, 513>
+    ensures { result.items ≡ refused_line text.now why.now }
+{
+    with_line_feed(&refused(text, part(why)))
+}
+
+fn refused(text: &[u8], why: &[u8]) -> Remark
+    ensures { result.items
+        ≡ remark_of (codes "line refused: " ∷ text.now ∷ codes ": " ∷ why.now ∷ []) }
+{
+    join(&[b"line refused: ", text, b": ", why])
+}
+
+fn with_line_feed(remark: &Remark) -> ArrayVec<u8, 513>
+    ensures { result.items ≡ remark.now.items ++ codes "\n" }
+{
+    let mut line = ArrayVec::new();
+    let _ = line.try_extend_from_slice(remark.as_slice());
+    let _ = line.try_push(b'\n');
+    line
 }
 
 /// A text as a part beside others.

@@ -1,6 +1,9 @@
+ghost use Rattle.std.specs.Prelude.{[]};
+
 use crate::fault::DeviceFault;
 use crate::written_record::WrittenRecord;
-use night_record::{FirstLines, LineFront, NightLines, first_lines};
+use devices::LinkFault;
+use night_record::{ComingLines, FirstLines, LineFront, NightLines, head_within};
 use std::io::ErrorKind;
 use std::thread::sleep;
 use std::time::Duration;
@@ -54,21 +57,7 @@ impl AppendedLines {
 
     /// The first two lines without the last LF, if they come within so many milliseconds.
     pub fn first_two(&mut self, rt: &HostRuntime, milliseconds: u64) -> Option<FirstLines> {
-        let (first, turns) = self.next_within(rt, milliseconds / TURN)?;
-        let (second, _) = self.next_within(rt, turns)?;
-        Some(first_lines(&first, &second))
-    }
-
-    // The next line, if it comes within so many turns behind this one, and how many are left.
-    fn next_within(&mut self, rt: &HostRuntime, turns: u64) -> Option<(LineFront, u64)> {
-        for turn in 0..=turns {
-            self.look().ok()?;
-            if let Some(line) = self.next_line() {
-                return Some((line, turns.saturating_sub(turn)));
-            }
-            sleep(rt, Duration::from_millis(TURN));
-        }
-        None
+        head_within(&mut AwaitedLines { rt, lines: self }, milliseconds / TURN)
     }
 
     /// How many bytes of the file were given in lines, their LFs included.
@@ -79,5 +68,29 @@ impl AppendedLines {
     /// Whether the name still leads to the file, and the file has all lines that were given.
     pub fn is_there(&self, rt: &HostRuntime, name: &str) -> bool {
         self.record.is_there(rt, name, self.taken())
+    }
+}
+
+// The lines of a file, and how a turn is waited for. It does not tell what was given.
+#[derive(Drop)]
+struct AwaitedLines<'a, 'l> {
+    rt: &'a HostRuntime,
+    lines: &'l mut AppendedLines,
+}
+
+impl ComingLines for AwaitedLines<'_, '_> {
+    ghost tells = { λ _. ⊥ };
+
+    ghost tape = { λ _. record { given = []; turns = 0; failures = 0 } };
+
+    fn look_for_line(&mut self) -> Result<Option<LineFront>, LinkFault> {
+        match self.lines.look() {
+            Ok(()) => Ok(self.lines.next_line()),
+            Err(_) => Err(LinkFault),
+        }
+    }
+
+    fn wait_turn(&mut self) {
+        sleep(self.rt, Duration::from_millis(TURN));
     }
 }

@@ -2,10 +2,9 @@ ghost use Rattle.std.specs.Prelude.{[], false, None};
 
 use crate::fault::DeviceFault;
 use crate::way::Way;
-use line_queue::{LineQueue, Notice, OutputLook, Pipe};
+use line_queue::{LineQueue, Notice, OutputLook, Pipe, WrittenFile};
 use mio::unix::SourceFd;
 use mio::{Events, Interest, Poll, Token};
-use std::fs::Metadata;
 use std::io::{Error, ErrorKind, Write};
 use std::os::fd::{AsRawFd, RawFd};
 use std::time::Duration;
@@ -148,17 +147,12 @@ impl<W: Write + AsRawFd + Drop> BoundedOutput<W> {
 
 impl<W: AsRawFd> BoundedOutput<W> {
     /// Its file, if another process writes it.
-    pub fn written_file(&self, rt: &HostRuntime) -> Option<Metadata> {
+    pub fn written_file(&self, rt: &HostRuntime) -> Option<WrittenFile> {
         self.queue.pipe.way.written_file(rt)
     }
 }
 
 impl<W> BoundedOutput<W> {
-    /// The system's reason where a write failed. Nothing is written any more then.
-    pub fn failure(&self) -> Option<ErrorKind> {
-        self.queue.failure()
-    }
-
     /// How many bytes the process that writes its file was given. It is 0 where there is none, or
     /// where it has failed.
     pub fn piped_bytes(&self) -> u64 {

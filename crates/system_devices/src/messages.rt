@@ -1,7 +1,6 @@
 use crate::bounded_output::{BoundedOutput, Names};
 use crate::fault::DeviceFault;
-use line_queue::Notice;
-use std::fs::Metadata;
+use line_queue::{Notice, WrittenFile};
 use std::io::Stderr;
 
 const NAMES: Names = Names {
@@ -52,12 +51,10 @@ impl Messages {
             inner.finish();
         }
     }
+
     /// The file of standard error, if another process writes it.
-    pub fn written_file(&self, rt: &HostRuntime) -> Option<Metadata> {
-        match &self.inner {
-            Some(inner) => inner.written_file(rt),
-            None => None,
-        }
+    pub fn written_file(&self, rt: &HostRuntime) -> Option<WrittenFile> {
+        self.inner.as_ref()?.written_file(rt)
     }
 
     /// How many bytes the process that writes that file was given.

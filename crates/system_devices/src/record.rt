@@ -1,9 +1,7 @@
 use crate::bounded_output::BoundedOutput;
 use crate::messages::Messages;
 use crate::writers::{PipedOutput, wait_for_writers};
-use arrayvec::ArrayString;
-use line_queue::{OutputNotice, OutputWatch};
-use std::fmt::Write;
+use line_queue::{OutputNotice, OutputWatch, owed_bytes, record_owed_line};
 use std::fs::File;
 
 /// Where the lines of a night are kept, if anywhere.
@@ -69,9 +67,7 @@ impl Record {
         self.tell_state(messages);
         let left = wait_for_writers(rt, self);
         if left > 0 {
-            let mut text = ArrayString::<80>::new();
-            let _ = writeln!(text, "record: {left} bytes are still with its writer");
-            messages.tell(text.as_str().as_bytes());
+            messages.tell(record_owed_line(left).as_str().as_bytes());
         }
     }
 
@@ -85,18 +81,7 @@ impl Record {
         if notice == OutputNotice::Failed {
             self.lines = None;
         }
-        messages.tell(text_of(notice));
-    }
-}
-
-fn text_of(notice: OutputNotice) -> &'static [u8] {
-    match notice {
-        OutputNotice::Failed => b"record: device fault\n",
-        OutputNotice::Late => b"record: late, and the light goes on\n",
-        OutputNotice::Whole => b"record: whole again\n",
-        OutputNotice::Missing => {
-            b"record: goes on, and a comment in it says how many lines are missing\n"
-        }
+        messages.tell(notice.record_line().as_bytes());
     }
 }
 
@@ -105,12 +90,6 @@ impl PipedOutput for Record {
         let Some(lines) = &self.lines else {
             return 0;
         };
-        match lines.written_file(rt) {
-            Some(file) => {
-                let wanted = self.length.saturating_add(lines.piped_bytes());
-                wanted.saturating_sub(file.len())
-            }
-            None => 0,
-        }
+        owed_bytes(self.length, lines.piped_bytes(), lines.written_file(rt))
     }
 }

@@ -1,9 +1,11 @@
 use arrayvec::ArrayString;
+use line_queue::WrittenFile;
 use std::env::{self, VarError};
 use std::fmt::Write as _;
 use std::fs::{File, Metadata, OpenOptions, metadata};
 use std::io::{Error, ErrorKind, Result as IoResult, Write};
 use std::os::fd::{AsRawFd, RawFd};
+use std::os::unix::fs::MetadataExt;
 
 /// The way of an output's bytes: into the output itself, or, where that is a file, through a pipe
 /// to a process that writes it, and may wait for the disk.
@@ -32,11 +34,16 @@ impl<W: AsRawFd + Drop> Way<W> {
 
 impl<W: AsRawFd> Way<W> {
     /// The output's file, if another process writes it.
-    pub fn written_file(&self, rt: &HostRuntime) -> Option<Metadata> {
-        match &self.pipe {
-            Some(_) => metadata_of(rt, &self.output).ok(),
-            None => None,
+    pub fn written_file(&self, rt: &HostRuntime) -> Option<WrittenFile> {
+        if !self.is_pipe() {
+            return None;
         }
+        let file = metadata_of(rt, &self.output).ok()?;
+        Some(WrittenFile {
+            device: file.dev(),
+            number: file.ino(),
+            length: file.len(),
+        })
     }
 }
 

@@ -1,3 +1,4 @@
+mod following;
 mod machine;
 mod memory;
 mod packet;

@@ -1,8 +1,8 @@
 ghost use Rattle.std.specs.Prelude.{◌≡◌, ◌≤◌, IfOk, filter, length, take};
-ghost use Rattle.cueplayer.specs.Source.{behind_program, is_graphic, name_on, source_name};
+ghost use Rattle.cmd_words.specs.Source.{behind_program, is_graphic, name_on, source_name};
 
+use crate::job::Night;
 use arrayvec::ArrayVec;
-use cmd_words::Night;
 use std::alloc::{AllocError, Global};
 
 /// The name of who sends, for people to read.
