@@ -165,7 +165,7 @@ class Starts(CardsTest):
 
     def test_start(self):
         cases = (self.named, self.default_route, self.local_route, self.several, self.one_card)
-        self.side_by_side(*cases, self.many_routes)
+        self.side_by_side(*cases, self.many_routes, self.tied_socket)
 
     def named(self, kept):
         """By either form of the word."""
@@ -192,6 +192,19 @@ class Starts(CardsTest):
         venue.console.ip(*(f"route add 10.7.{k}.0/24 dev eth0" for k in range(100)))
         night = Night(kept, venue, self.show, "--to", STAGE)
         self.assertFrom(night, f"from {LIT} (lit), the route to 10.101.2.0/24")
+
+    def tied_socket(self, kept):
+        """What goes to nodes has a socket that sends by its card alone, as the system says; with
+        --any-route there is none."""
+        venue = Venue(kept)
+        for options, tied in (((), [f"[::ffff:{LIT}]%lit"]), (("--any-route",), [])):
+            named = ("--to", STAGE, "--interface", "lit", *options)
+            night = Night(kept, venue, self.show, *named)
+            words = venue.console.words("ss", "-H", "-u", "-a", "-n")
+            shown = subprocess.run(words, capture_output=True, text=True, check=True).stdout
+            places = [line.split()[3].rpartition(":")[0] for line in shown.splitlines()]
+            self.assertEqual(tied, [place for place in places if "%" in place])
+            self.assertEqual((0, []), night.end())
 
     def several(self, kept):
         """A line of each address."""

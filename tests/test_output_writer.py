@@ -9,7 +9,7 @@ import signal
 import subprocess
 import time
 
-from program import told
+from program import PROGRAM, told
 from test_live import without_moments
 from test_record_writer import NEVER, WriterTest
 from tooling import stand_still
@@ -146,6 +146,14 @@ class OutputWriter(WriterTest):
             self.light(night, b"sub 1 0\n", 0)
             self.assertEnds(night)
             self.assertEqual(b"", night.stderr.read())
+
+    def test_pipe_for_no_file(self):
+        """The pipe of a writer is for a file: what is none is written as ever."""
+        pipe = self.folder / "pipe"
+        os.mkfifo(pipe)
+        self.PROGRAM = PROGRAM
+        self.env = self.env | {"CUEPLAYER_OUTPUT_PIPE": str(pipe)}
+        self.assertEqual(["ok"] * 2, without_moments(self.ended(self.begun()).out))
 
     def test_killed_beside_its_writers(self):
         """What was printed is in the files, though the disk stalled and the program was killed."""

@@ -104,6 +104,19 @@ class Outputs(OutputsTest):
                     self.assertEqual(["ok"] * 4, without_moments(replies.read()))
                 self.assertEqual(b"", night.stderr.read())
 
+    def test_reader_that_is_late(self):
+        """What is not read yet when the night has ended comes if it is read soon."""
+        reader, writer, filled = full_pipe()
+        night = self.begun(stdout=writer)
+        os.close(writer)
+        self.light(night, b"sub 1 FL\n", 128)
+        night.stdin.write(b"end\n")
+        self.assertTerminated(self.came(wait=0.2)[-7:])
+        with open(reader, "rb") as replies:
+            replies.read(filled)
+            self.assertEqual(["ok"] * 3, without_moments(replies.read()))
+        self.assertEqual(0, night.wait(timeout=30))
+
     def test_reader_that_stalls(self):
         """What there is no room for is dropped, and in its place stands how much that was."""
         record = self.folder / "night.play"
