@@ -152,7 +152,8 @@ impl MainWatch for WatchedMain<'_> {
     }
 
     fn keep(&mut self, line: &LineFront) {
-        self.booth.keep_led(kept_line(line).as_slice(), !self.has_begun);
+        self.booth
+            .keep_led(kept_line(line).as_slice(), !self.has_begun);
     }
 
     fn tell_missing(&mut self, line: &LineFront) {

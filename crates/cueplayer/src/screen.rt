@@ -71,7 +71,8 @@ impl Screen {
         self.messages.finish();
         let left = wait_for_writers(rt, self);
         if left > 0 {
-            self.messages.tell(outputs_owed_line(left).as_str().as_bytes());
+            self.messages
+                .tell(outputs_owed_line(left).as_str().as_bytes());
             self.messages.finish();
         }
     }

@@ -1,7 +1,6 @@
-use cmd_live::{Led, MainConsole};
-use devices::memory::Faults;
 use cmd_live::memory::{MemoryPlayedRecord, MemoryWatch};
-use cmd_live::{Backup, Ending, Spare};
+use cmd_live::{Backup, Ending, Led, MainConsole, Spare};
+use devices::memory::Faults;
 use night_record::LineFront;
 
 fn front(text: &[u8]) -> LineFront {
@@ -43,7 +42,11 @@ fn a_spare_ends_where_its_record_fails(rt: HostRuntime) {
 
 #[test]
 fn a_backup_follows_until_take_is_typed(rt: HostRuntime) {
-    let lines = [front(b"! 3 lines dropped"), front(b"25 tick"), front(b"31 go")];
+    let lines = [
+        front(b"! 3 lines dropped"),
+        front(b"25 tick"),
+        front(b"31 go"),
+    ];
     let typed = [front(b"help"), front(b"go"), front(b"take")];
     let mut watch = MemoryWatch::new(rt.alloc(), lines.as_slice(), typed.as_slice(), 2);
     watch.begin();
