@@ -29,7 +29,7 @@ other_card index = if index == 1 then 2 else 1
 -- the system refuses a card for a socket that is tied to another one
 abbrev pub is_refused : ErrorKind → Bool
 is_refused kind.InvalidInput = true
-is_refused other = false
+is_refused _ = false
 
 -- so a socket is tied to a card where it does not refuse this one, and refuses another
 abbrev pub is_tied : ErrorKind → ErrorKind → Bool
