@@ -232,9 +232,10 @@ class Night:
         self.type(line)
         return int(self.out.find(r"(\d+) (ok|where)\b")[1])
 
-    def told(self, text: str) -> None:
-        """Waits for this on standard error, behind its moment in hours, minutes and seconds."""
-        self.err.find(rf"\d+:\d\d:\d\d {re.escape(text)}$")
+    def told(self, *texts: str) -> None:
+        """Waits for one of these on standard error, behind its moment in hours, minutes and
+        seconds."""
+        self.err.find(rf"\d+:\d\d:\d\d ({'|'.join(map(re.escape, texts))})$")
 
     def end(self) -> tuple[int, list[str]]:
         """Ends the night: its status, and what was told since the last look."""

@@ -57,13 +57,13 @@ class CardsTest(NetworkTest, FolderTest):
         self.assertEqual(list(lines), [line for line in night.start if line.startswith(begins)])
 
     @contextmanager
-    def soon(self, night, pattern):
-        """What happens inside is told within two seconds."""
+    def soon(self, night, *texts):
+        """What happens inside is told within two seconds, in one of these words."""
         before = time.monotonic()
         yield
-        night.told(pattern)
+        night.told(*texts)
         self.waits.append(took(before))
-        in_time(self.waits[-1], SOON, pattern)
+        in_time(self.waits[-1], SOON, texts[0])
 
 
 class Ways(CardsTest):
@@ -348,14 +348,15 @@ class Watch(CardsTest):
         self.assertLost(night)
 
     def card_plugged_in_anew(self, kept):
-        """It is another card to the system, and the same one to the night."""
+        """It is another card to the system, and the same one to the night, which may see it while
+        it is not up yet."""
         venue, night = self.lit_night(kept, "--to", STAGE)
         with self.soon(night, self.GONE):
             venue.console.ip("link del lit")
         night.ask("go")
         venue.plug("lit", venue.stage)
         venue.stage.watch_cable()
-        with self.soon(night, f"lit has {LIT}"):
+        with self.soon(night, f"lit has {LIT}", "link lit"):
             venue.console.ip(f"addr add {LIT}/24 dev lit", "link set lit up")
         self.assertLit(venue)
         self.assertLost(night)

@@ -246,11 +246,9 @@ class Killed(FollowTest):
         # kill.
         zeros = [1000 * each.at - sent.moment for each, sent in zip(backup.heard, meant)]
         in_time(took(began - 1)._replace(ms=max(zeros) - min(zeros)), LATE, "packets are late")
-        # Dimmer 1 of cue 1, in a fade of six seconds, never falls and never leaps.
-        levels = [
-            each.packet[SLOT_1] for each in meant if universe_of(each.packet) == 1
-            if each.moment < meant[-1].moment - 200
-        ]
+        # Dimmer 1 of cue 1, in a fade of six seconds, never falls and never leaps, up to the seven
+        # packets of the end.
+        levels = [each.packet[SLOT_1] for each in meant if universe_of(each.packet) == 1][:-7]
         steps = [b - a for a, b in zip(levels, levels[1:])]
         self.assertLessEqual(0, min(steps))
         # A step in milliseconds of the fade.
