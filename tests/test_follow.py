@@ -133,6 +133,16 @@ class Leads(FollowTest):
         self.assertIn(b"take: from now on this console leads", out)
         self.assertEqual(1, backup.record.read_bytes().count(b" go\n"))
 
+    def test_longer_than_its_patience(self):
+        """A main whose lines come is followed for longer than it may be silent."""
+        main, backup = self.both(b"go\n", silence=1000)
+        time.sleep(1.5)
+        main.typed(b"sub 1 50\n")
+        self.follows(main, backup)
+        self.assertEqual((0, 0), (main.end(), backup.ended()))
+        self.assertTold(backup, rb"0:00:\d\d the main has ended the night\n")
+        self.assertEqual(1, len({lines_of(each.record) for each in (main, backup)}))
+
     def test_lock(self):
         """No other console begins under the CID of a backup that follows."""
         _, backup = self.written("0 tick")
