@@ -77,6 +77,9 @@ IN_THE_PROGRAM = {
     "first_bytes": "test_refused_growths.RefusedGrowths.test_check",
     "open": "test_refused_growths.RefusedGrowths.test_play",
     "read_words": "test_refused_growths.RefusedGrowths.test_words",
+    "lock_path": "test_refused_growths.RefusedGrowths.test_live",
+    "name_on": "test_refused_growths.RefusedGrowths.test_live",
+    "node_text": "test_refused_growths.RefusedGrowths.test_record_in_use",
 }
 # Calls that take no memory once something is open: tests of them that ask for as much as one that
 # only opens it.
@@ -133,7 +136,7 @@ def tests_of(place):
 
 def tested_places():
     """The modules of tests, each after its crate of tests."""
-    modules = (TOP / "crates").glob("*_tests/src/tests/*.rt")
+    modules = (TOP / "crates").glob("test_*/src/tests/*.rt")
     return sorted(f"{file.parents[2].name}::{file.stem}" for file in modules)
 
 

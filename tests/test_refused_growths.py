@@ -1,6 +1,8 @@
 """Each growth of a run's memory refused in turn: the run then tells its want of memory and prints
 nothing, or ends as it does with all memory. And: once a run is open, it asks for no memory."""
 
+import fcntl
+import os
 import re
 import struct
 import subprocess
@@ -92,6 +94,22 @@ class RefusedGrowths(Growths):
         self.assertEachRefused(
             ["live", self.show, "--to", "127.0.0.1:9", "--cid", CID], b"go\nend\n"
         )
+
+    def test_record_in_use(self):
+        """Without memory to find who keeps the record, its process is not told."""
+        record = self.file("night.play", b"")
+        words = ["live", self.show, "--to", "127.0.0.1:9", "--cid", CID, "--record", record]
+        with open(record, "rb") as kept:
+            fcntl.flock(kept, fcntl.LOCK_EX)
+            whole = self.run_without(0, words, b"")
+            growths, _ = self.growths()
+            self.assertEqual(4, whole.status)
+            named = rb"^record: in use by process %d\b" % os.getpid()
+            self.assertRegex(whole.err, named)
+            nobody = whole._replace(err=whole.err.replace(b" by process %d" % os.getpid(), b""))
+            seen = {self.run_without(growth, words, b"") for growth in range(1, growths + 1)}
+            self.assertIn(nobody, seen)
+            self.assertLessEqual(seen, {MEMORY, whole, nobody})
 
     def test_rehearse(self):
         lines = [f"console 1 10{n} {CID[:-1]}{n}" for n in range(2)] + ["receiver 1", "receiver 2"]
