@@ -6,6 +6,7 @@ import re
 import shutil
 import signal
 import subprocess
+import threading
 import time
 from pathlib import Path
 
@@ -130,6 +131,22 @@ class RecordWriter(WriterTest):
         self.assertEnds(night)
         self.assertEqual(b"record: device fault\n", night.stderr.read())
         self.assertEqual(b"sub 1 FL", commands(self.record)[0])
+
+    def test_writer_that_goes_on_at_the_end(self):
+        """The end waits for what a writer has still, and tells nothing where all is written within
+        two seconds."""
+        night = self.begun("--record", self.record)
+        self.light(night, b"sub 1 FL\n", 128)
+        writer = self.writer(night)
+        stand_still(writer)
+        self.light(night, b"sub 1 0\n", 0)
+        goes_on = threading.Timer(1, os.kill, (writer, signal.SIGCONT))
+        self.addCleanup(goes_on.cancel)
+        goes_on.start()
+        self.assertEnds(night)
+        wanted = [b"sub 1 FL", b"sub 1 0", b"master 0", b"end"]
+        self.assertEqual(wanted, commands(self.record))
+        self.assertEqual(b"", night.stderr.read())
 
     def test_stalled_to_the_end(self):
         """The program ends, and says how much its writer has still."""
