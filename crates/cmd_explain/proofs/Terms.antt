@@ -51,7 +51,7 @@ pub use Rattle.cmd_explain.specs.declared.note_lines.LineNotes.{LineNotes}
 pub use Rattle.cmd_explain.specs.declared.openings.Openings.{Openings}
 pub use Rattle.cmd_explain.specs.CueParts.{CuePart, part_of_line, newest_first, with_part}
 pub use Rattle.cmd_explain.specs.CueParts.{parts_below, parts_after, change_last, part_of}
-pub use Rattle.cmd_explain.specs.CueParts.{part_with_pairs, new_part, part_with_down, part_with_up}
+pub use Rattle.cmd_explain.specs.CueParts.{part_with_pairs, new_part, part_with_time}
 pub use Rattle.cmd_explain.specs.CueParts.{first_times, last_times, part_note}
 unfoldable pub use Rattle.cmd_explain.specs.CueParts.{channels_in}
 pub use Rattle.cmd_explain.specs.CueParts.{cue_part_notes, times_or, notes_on_cues, part_notes}

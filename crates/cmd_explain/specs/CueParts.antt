@@ -8,11 +8,13 @@ use Rattle.std.specs.List.{fold, list_any, range_with_len}
 use Rattle.std.specs.Option.{option_or}
 use Rattle.std.specs.FinMap as maps
 use Rattle.ascii_text.specs.Text.{words_of}
+use Rattle.show.specs.declared.cue.CueTime.{CueTime}
+use Rattle.show.specs.declared.cue.CueTime.TheVariants.{Up, Down, Follow}
 use Rattle.show.specs.declared.rate.Rate.{Rate}
 use Rattle.show.specs.Tables.{Tables}
 use Rattle.show_line.specs.declared.statement.Record.TheVariants.{Cue}
 use Rattle.show_line.specs.declared.statement.Statement.{Statement}
-use Rattle.show_line.specs.declared.statement.Statement.TheVariants.{Opens, Levels, Rises, Falls}
+use Rattle.show_line.specs.declared.statement.Statement.TheVariants.{Opens, Levels, SetsTime}
 use Rattle.show_line.specs.declared.statement.Statement.TheVariants.{Clears}
 use Rattle.show_line.specs.declared.statement.Table.TheVariants.{Cues}
 use Rattle.show_reader.specs.Meaning.{empties}
@@ -82,11 +84,14 @@ abbrev pub change_last : (CuePart → CuePart) → List CuePart → List CuePart
 change_last change [] = []
 change_last change (p ∷ parts) = change p ∷ parts
 
-abbrev pub part_with_up : Rate → CuePart → CuePart
-part_with_up rate p = record p { times = record { up = Some rate; down = p.times.down } }
+-- a part has no follow-on time of its own
+abbrev pub times_with : CueTime → Times → Times
+times_with (Up rate) times = record { up = Some rate; down = times.down }
+times_with (Down rate) times = record { up = times.up; down = Some rate }
+times_with (Follow time) times = times
 
-abbrev pub part_with_down : Rate → CuePart → CuePart
-part_with_down rate p = record p { times = record { up = p.times.up; down = Some rate } }
+abbrev pub part_with_time : CueTime → CuePart → CuePart
+part_with_time time p = record p { times = times_with time p.times }
 
 abbrev pub part_with_pairs : List (ℕ × ℕ) → CuePart → CuePart
 part_with_pairs pairs p = record p { pairs = p.pairs ++ pairs }
@@ -98,8 +103,7 @@ parts_with_levels _ parts = parts
 
 -- with its times; or CLEAR empties the cues
 abbrev pub parts_with_times : Statement → List CuePart → List CuePart
-parts_with_times (Rises n rate) parts = change_last (part_with_up rate) parts
-parts_with_times (Falls n rate) parts = change_last (part_with_down rate) parts
+parts_with_times (SetsTime n time) parts = change_last (part_with_time time) parts
 parts_with_times (Clears what) parts = if empties what Cues then [] else parts
 parts_with_times _ parts = parts
 

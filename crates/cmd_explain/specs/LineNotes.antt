@@ -8,13 +8,14 @@ use Rattle.std.specs.Char.{is_ascii_digit}
 use Rattle.std.specs.FinMap as maps
 use Rattle.ascii_text.specs.Forms.{cue_number_of}
 use Rattle.ascii_text.specs.Text.{words_of}
+use Rattle.show.specs.declared.cue.CueTime.TheVariants.{Up, Down, Follow}
 use Rattle.show.specs.declared.rate.Rate.{Rate}
 use Rattle.show.specs.Readers.{cue_above}
 use Rattle.show.specs.Tables.{Tables}
 use Rattle.show_line.specs.declared.statement.Record.{Record}
 use Rattle.show_line.specs.declared.statement.Record.TheVariants.{Cue, Group, Sub}
 use Rattle.show_line.specs.declared.statement.Statement.{Statement}
-use Rattle.show_line.specs.declared.statement.Statement.TheVariants.{Opens, Rises, Falls, Follows}
+use Rattle.show_line.specs.declared.statement.Statement.TheVariants.{Opens, SetsTime}
 use Rattle.show_line.specs.declared.statement.Statement.TheVariants.{Clears}
 use Rattle.show_line.specs.declared.statement.Table.{Table}
 use Rattle.show_line.specs.Said.{desk_limits}
@@ -110,9 +111,9 @@ has_decimal_comma _ = false
 
 -- the times that UP, DOWN or FOLLOWON gives to a cue; another line gives none
 abbrev pub times_on : Statement → Option LineTimes
-times_on (Rises n rate) = Some (record { time = rate.time; delay = Some rate.delay })
-times_on (Falls n rate) = Some (record { time = rate.time; delay = Some rate.delay })
-times_on (Follows n time) = Some (record { time = time; delay = None })
+times_on (SetsTime n (Up rate)) = Some (record { time = rate.time; delay = Some rate.delay })
+times_on (SetsTime n (Down rate)) = Some (record { time = rate.time; delay = Some rate.delay })
+times_on (SetsTime n (Follow time)) = Some (record { time = time; delay = None })
 times_on _ = None
 
 abbrev pub delay_text : Option ℕ → List ℕ
@@ -157,8 +158,8 @@ hour_note_on number n word rate =
     else []
 
 abbrev pub hour_by : ℕ → Statement → List ℕ
-hour_by number (Rises n rate) = hour_note_on number n (codes "UP ") rate
-hour_by number (Falls n rate) = hour_note_on number n (codes "DOWN ") rate
+hour_by number (SetsTime n (Up rate)) = hour_note_on number n (codes "UP ") rate
+hour_by number (SetsTime n (Down rate)) = hour_note_on number n (codes "DOWN ") rate
 hour_by number _ = []
 
 abbrev pub hour_note : NoteKind

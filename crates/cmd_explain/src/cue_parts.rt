@@ -6,15 +6,15 @@ ghost use Rattle.cmd_explain.specs.CueParts.{part_of_line, fall, headed_cue, cha
 ghost use Rattle.cmd_explain.specs.CueParts.{new_part, no_times, opened_cue, part_by, part_name};
 ghost use Rattle.cmd_explain.specs.CueParts.{part_of, with_part, parts_with_levels};
 ghost use Rattle.cmd_explain.specs.CueParts.{parts_with_times, rise};
-ghost use Rattle.cmd_explain.specs.CueParts.{same_rate, same_times, times_or, part_with_down};
-ghost use Rattle.cmd_explain.specs.CueParts.{part_with_pairs, part_with_up};
+ghost use Rattle.cmd_explain.specs.CueParts.{same_rate, same_times, times_or, times_with};
+ghost use Rattle.cmd_explain.specs.CueParts.{part_with_pairs, part_with_time};
 ghost use Rattle.cmd_explain.specs.Headings.{operands};
 
 use crate::heading::Heading;
 use crate::line_words::{begins_with_word, operands};
 use crate::openings::is_emptied;
 use ascii_text::Line;
-use show::Rate;
+use show::{CueTime, Rate};
 use show_line::{Pairs, Record, Statement, Table};
 use std::alloc::{AllocError, Global};
 
@@ -47,6 +47,17 @@ impl Times {
         Times {
             up: None,
             down: None,
+        }
+    }
+
+    /// Sets one of them. A follow-on time is none of a part.
+    fn set(&mut self, time: CueTime)
+        ensures { self.new ≡ times_with time self.old }
+    {
+        match time {
+            CueTime::Up(rate) => self.up = Some(rate),
+            CueTime::Down(rate) => self.down = Some(rate),
+            CueTime::Follow(_) => {}
         }
     }
 
@@ -203,8 +214,7 @@ pub fn take_times(parts: &mut Vec<Part>, says: &Statement<'_>) -> Result<(), All
         ≡ parts_with_times says.now (reverse (map part_of parts.old.items))) }
 {
     match says {
-        Statement::Rises(_, rate) => set_up(parts, *rate),
-        Statement::Falls(_, rate) => set_down(parts, *rate),
+        Statement::SetsTime(_, time) => set_time(parts, *time),
         Statement::Clears(what) => {
             if is_emptied(*what, Table::Cues) {
                 parts.clear();
@@ -215,26 +225,14 @@ pub fn take_times(parts: &mut Vec<Part>, says: &Statement<'_>) -> Result<(), All
     }
 }
 
-fn set_up(parts: &mut Vec<Part>, rate: Rate) -> Result<(), AllocError>
+fn set_time(parts: &mut Vec<Part>, time: CueTime) -> Result<(), AllocError>
     ensures { OnOk result (reverse (map part_of parts.new.items)
-        ≡ change_last (part_with_up rate) (reverse (map part_of parts.old.items))) }
+        ≡ change_last (part_with_time time) (reverse (map part_of parts.old.items))) }
 {
     let Some(mut part) = parts.pop() else {
         return Ok(());
     };
-    part.times.up = Some(rate);
-    parts.push(part)?;
-    Ok(())
-}
-
-fn set_down(parts: &mut Vec<Part>, rate: Rate) -> Result<(), AllocError>
-    ensures { OnOk result (reverse (map part_of parts.new.items)
-        ≡ change_last (part_with_down rate) (reverse (map part_of parts.old.items))) }
-{
-    let Some(mut part) = parts.pop() else {
-        return Ok(());
-    };
-    part.times.down = Some(rate);
+    part.times.set(time);
     parts.push(part)?;
     Ok(())
 }

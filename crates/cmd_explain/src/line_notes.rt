@@ -14,7 +14,7 @@ use crate::heading::Heading;
 use crate::line_words::{begins_with_word, operands};
 use crate::skipped::{first_bytes, push_display_text};
 use ascii_text::cue_number;
-use show::{Rate, Show};
+use show::{CueTime, Rate, Show};
 use show_line::{Record, Statement};
 use std::alloc::AllocError;
 
@@ -154,11 +154,11 @@ fn times_on(statement: &Statement<'_>) -> Option<LineTimes>
     ensures { result ≡ times_on statement.now }
 {
     match statement {
-        Statement::Rises(_, rate) | Statement::Falls(_, rate) => Some(LineTimes {
+        Statement::SetsTime(_, CueTime::Up(rate) | CueTime::Down(rate)) => Some(LineTimes {
             time: rate.time,
             delay: Some(rate.delay),
         }),
-        Statement::Follows(_, time) => Some(LineTimes {
+        Statement::SetsTime(_, CueTime::Follow(time)) => Some(LineTimes {
             time: *time,
             delay: None,
         }),
@@ -251,8 +251,10 @@ pub fn push_hour(
     ensures { OnOk result (out.new.items ≡ out.old.items ++ hour_by number statement.now) }
 {
     match statement {
-        Statement::Rises(cue, rate) => push_long(out, number, *cue, b"UP ", *rate),
-        Statement::Falls(cue, rate) => push_long(out, number, *cue, b"DOWN ", *rate),
+        Statement::SetsTime(cue, CueTime::Up(rate)) => push_long(out, number, *cue, b"UP ", *rate),
+        Statement::SetsTime(cue, CueTime::Down(rate)) => {
+            push_long(out, number, *cue, b"DOWN ", *rate)
+        }
         _ => Ok(()),
     }
 }

@@ -6,7 +6,7 @@ use Rattle.std.specs.Option.{option_map_or}
 use Rattle.std.specs.FinMap as map
 use Rattle.show.specs.declared.cue.CueData.{CueData}
 use Rattle.show.specs.declared.rate.Rate.{Rate}
-use Rattle.show.specs.Builders.{blank}
+use Rattle.show.specs.Cues.{blank}
 use Rattle.show.specs.Readers.{rate_of, level_in, cue_above, cue_below}
 use Rattle.show.specs.Tables.{CueMap, Tables}
 use Rattle.fade.specs.Level.{Start, split_fade}

@@ -8,6 +8,7 @@ use Rattle.show.proofs.Terms.{blank, with_cue, can_open, with_change, opened_in,
 use Rattle.show.proofs.Terms.{patched_with, all_patched, IsInRange, IsRateInRange, HasTimes}
 use Rattle.show.proofs.Terms.{rate_of}
 use Rattle.std.specs.FinMap as map
+use Rattle.show.proofs.Cues.{no_times}
 use Rattle.show.proofs.Sorted.{and_left, and_right, from_true, to_true}
 use Rattle.show.proofs.Ranges.{keys-insert, keys-changed, keys-remove, key_in, len-changed}
 use Rattle.show.proofs.Ranges.{values-insert, values-remove, values-changed, value_in, none_in}
@@ -23,9 +24,6 @@ opened_in_range P masters n h p =
       | true ↦ h
       | false ↦ keys-insert P masters n map.empty h p
     ]
-
-no_times : HasTimes blank
-no_times = record { up_in = tt; down_in = tt; follow_in = tt }
 
 time_fits : (t : ℕ) → IsTrue (is_time t) → t ≤ 5999990
 time_fits t h = grind (arith, nat_tests)

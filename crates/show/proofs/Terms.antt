@@ -14,8 +14,11 @@ pub use Rattle.std.proofs.lemmas.Map.Views.{tells_apart}
 pub use Rattle.std.proofs.lemmas.Map.Lookups.{exact_unsigned}
 pub use Rattle.show.specs.Tables.{CueMap, MasterMap, LevelMap, PatchMap, Tables}
 pub use Rattle.show.specs.Builders.{with_change, with_bytes, with_levels, with_all_listed}
-pub use Rattle.show.specs.Builders.{patched_with, all_patched, blank, with_cue, can_open, opened_in}
+pub use Rattle.show.specs.Builders.{patched_with, all_patched, with_cue, can_open, opened_in}
 pub use Rattle.show.specs.Builders.{can_patch}
+pub use Rattle.show.specs.Cues.{blank, TimeName, time_named, time_in, cue_with_time, IsRateInRange}
+pub use Rattle.show.specs.Cues.{IsTimeInRange, HasTimes}
+pub use Rattle.std.specs.Option.{option_or}
 pub use Rattle.std.specs.Prelude.{All, filter, nat_lt, option_map, IfSome, map, reverse}
 pub use Rattle.std.specs.List.{list_all, list_any, remove, insert, range_with_len}
 pub use Rattle.std.specs.FinMap.Entries.{below_all, find-put, find-append, by_order, find-where_key}
@@ -35,8 +38,9 @@ pub use Rattle.show.specs.Numbers.{is_within}
 pub use Rattle.show.specs.Place.{without, IsAt, IsGap}
 pub use Rattle.show.specs.Many.{with_entry, with_entries, with_all, IsTableOf}
 pub use Rattle.show.specs.declared.cue.CueData.{CueData}
+pub use Rattle.show.specs.declared.cue.CueTime.{CueTime}
 pub use Rattle.show.specs.declared.rate.Rate.{Rate}
-pub use Rattle.show.specs.Readers.{IsInRange, IsRateInRange, HasTimes, rate_of, ordinal_of}
+pub use Rattle.show.specs.Readers.{IsInRange, rate_of, ordinal_of}
 pub use Rattle.show.specs.Readers.{look_slot, has_dimmer_in}
 pub use Rattle.std.specs.List.Sorted.{IsNonDecreasingBy, IsSearchInRange, IsBinarySearchResult}
 pub use Rattle.std.specs.FinMap.{is_sorted, find, put, from_sorted, get, entries, get-from_sorted}

@@ -1,10 +1,11 @@
 -- What each builder makes of a table.
-use Rattle.std.specs.Prelude.{ℕ, ◌==◌, Some, None, if◌then◌else◌, Bool, ◌&&◌, ◌||◌, nat_le, nat_lt}
+use Rattle.std.specs.Prelude.{ℕ, ◌==◌, if◌then◌else◌, Bool, ◌&&◌, ◌||◌, nat_le, nat_lt}
 use Rattle.std.specs.Prelude.{List, [], ◌∷◌}
 use Rattle.std.specs.Option.{option_map_or}
 use Rattle.std.specs.FinMap as map
 use Rattle.show.specs.declared.cue.CueData.{CueData}
-use Rattle.show.specs.declared.rate.Rate.{Rate}
+use Rattle.show.specs.declared.cue.CueTime.{CueTime}
+use Rattle.show.specs.Cues.{blank, cue_with_time}
 use Rattle.show.specs.Numbers.{is_cue_number, is_dimmer}
 use Rattle.show.specs.Tables.{LevelMap, CueMap, MasterMap, PatchMap}
 
@@ -16,10 +17,6 @@ with_bytes levels [] = levels
 with_bytes levels (p ∷ pairs) = with_bytes (map.insert levels p.0 p.1) pairs
 
 -- ---- cues
-
--- a cue with nothing in it
-abbrev pub blank : CueData
-blank = record { levels = map.empty; up = None; down = None; follow = None }
 
 -- with cue n: as it is, or blank where it is not there
 abbrev pub with_cue : CueMap → ℕ → CueMap
@@ -44,17 +41,9 @@ abbrev pub with_levels : CueMap → ℕ → List (ℕ × ℕ) → CueMap
 with_levels cues n [] = cues
 with_levels cues n (p ∷ pairs) = with_levels (with_level cues n p.0 p.1) n pairs
 
--- with the rate of rising levels of cue n
-abbrev pub with_up : CueMap → ℕ → Rate → CueMap
-with_up cues n rate = with_change cues n (λ cue. record cue { up = Some rate })
-
--- with the rate of falling levels of cue n
-abbrev pub with_down : CueMap → ℕ → Rate → CueMap
-with_down cues n rate = with_change cues n (λ cue. record cue { down = Some rate })
-
--- with the follow-on time of cue n
-abbrev pub with_follow : CueMap → ℕ → ℕ → CueMap
-with_follow cues n time = with_change cues n (λ cue. record cue { follow = Some time })
+-- with a time of cue n
+abbrev pub with_time : CueMap → ℕ → CueTime → CueMap
+with_time cues n time = with_change cues n (λ cue. cue_with_time cue time)
 
 -- ---- submasters and groups
 

@@ -1,6 +1,7 @@
 pub mod Numbers
 pub mod Tables
 pub mod Codes
+pub mod Cues
 pub mod Builders
 pub mod Readers
 pub mod Place

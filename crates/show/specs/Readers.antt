@@ -1,12 +1,12 @@
 -- What the readers answer.
 use Rattle.std.specs.Prelude.{ℕ, ◌+◌, ◌-◌, ◌*◌, ◌/◌, ◌≤◌, ◌==◌, nat_lt, Bool, IsTrue}
-use Rattle.std.specs.Prelude.{Option, IfSome, unwrap_or, List, All, filter, map, find, reverse}
+use Rattle.std.specs.Prelude.{Option, unwrap_or, List, All, filter, map, find, reverse}
 use Rattle.std.specs.List.{list_any, range_with_len}
 use Rattle.std.specs.Option.{option_or, option_map_or}
 use Rattle.std.specs.FinMap as maps
-use Rattle.show.specs.declared.cue.CueData.{CueData}
 use Rattle.show.specs.declared.rate.Rate.{Rate}
-use Rattle.show.specs.Numbers.{is_channel, is_dimmer, is_sub, is_group, is_cue_number, is_time}
+use Rattle.show.specs.Numbers.{is_channel, is_dimmer, is_sub, is_group, is_cue_number}
+use Rattle.show.specs.Cues.{HasTimes}
 use Rattle.show.specs.Tables.{LevelMap, CueMap, PatchMap, Tables}
 
 -- the rate that is set, else the other's, else zeros
@@ -57,16 +57,6 @@ look_frame levels patch ordinal =
 -- channels stay in their range
 abbrev pub HasChannels : LevelMap → Type 0
 HasChannels levels = All (λ c. IsTrue (is_channel c)) (maps.keys levels)
-
--- a rate's time and delay are in their range
-abbrev pub IsRateInRange : Rate → Type 0
-IsRateInRange rate = IsTrue (is_time rate.time) × IsTrue (is_time rate.delay)
-
--- each time that a cue has set is in its range
-pub record HasTimes (cue : CueData) : Type 0 where
-  pub up_in : IfSome cue.up IsRateInRange
-  pub down_in : IfSome cue.down IsRateInRange
-  pub follow_in : IfSome cue.follow (λ time. IsTrue (is_time time))
 
 -- what holds of each show that the builders make: no number is outside its range
 pub record IsInRange (show : Tables) : Type 0 where

@@ -1,13 +1,24 @@
 ghost use Rattle.std.specs.Prelude.{◌≡◌, ◌≤◌, IfOk, IfSome};
 ghost use Rattle.std.specs.FinMap as map;
-ghost use Rattle.show.specs.Readers.{HasChannels, HasTimes, IsRateInRange};
-ghost use Rattle.show.specs.Readers.{rate_of, level_in};
+ghost use Rattle.show.specs.Cues.{blank, cue_with_time, IsRateInRange, HasTimes};
+ghost use Rattle.show.specs.Readers.{HasChannels, rate_of, level_in};
 
 use crate::levels::Levels;
 use crate::rate::Rate;
 use crate::table::CloneIn;
 use std::alloc::{AllocError, Global};
 use std::marker::Model;
+
+/// A time of a cue, as UP, DOWN or FOLLOWON sets it.
+#[derive(Clone, Copy, Debug, PartialEq, Eq)]
+pub enum CueTime {
+    /// The rate of rising levels.
+    Up(Rate),
+    /// The rate of falling levels.
+    Down(Rate),
+    /// The follow-on time in milliseconds: so long after the move to the cue the next one goes.
+    Follow(u32),
+}
 
 /// What a cue has: its levels, and the rates and the follow-on time that were set.
 #[derive(Debug, Drop)]
@@ -19,6 +30,29 @@ pub struct CueData {
 }
 
 impl CueData {
+    /// A cue with nothing in it. It takes no memory.
+    pub fn blank(alloc: Global) -> CueData
+        ensures { result ≡ blank }
+    {
+        CueData {
+            levels: Levels::new(alloc),
+            up: None,
+            down: None,
+            follow: None,
+        }
+    }
+
+    /// Sets a time. The one of its kind set last counts.
+    pub fn set_time(&mut self, time: CueTime)
+        ensures { self.new ≡ cue_with_time self.old time }
+    {
+        match time {
+            CueTime::Up(rate) => self.up = Some(rate),
+            CueTime::Down(rate) => self.down = Some(rate),
+            CueTime::Follow(time) => self.follow = Some(time),
+        }
+    }
+
     /// A copy.
     pub fn clone_in(&self, alloc: Global) -> Result<CueData, AllocError>
         ensures { IfOk result (λ copy. copy ≡ self.now) }
@@ -49,7 +83,7 @@ impl<'a> Model for Cue<'a> {
 
     ghost view = { λ c. c.data.now };
 
-    ghost use Rattle.show.specs.Readers.{HasTimes};
+    ghost use Rattle.show.specs.Cues.{HasTimes};
 
     ghost invariant = { λ c. HasTimes c.data.now };
 }

@@ -3,14 +3,12 @@ ghost use Rattle.std.specs.List.{list_all};
 ghost use Rattle.std.specs.Prelude.{find as find_in, reverse, nat_lt, map as map_list};
 ghost use Rattle.std.specs.FinMap as map;
 ghost use Rattle.show.specs.Numbers.{is_channel};
-ghost use Rattle.show.specs.Builders.{with_cue, with_level, with_levels, with_up, with_down};
-ghost use Rattle.show.specs.Builders.{with_follow};
-ghost use Rattle.show.specs.Readers.{HasTimes, cue_above, cue_below};
+ghost use Rattle.show.specs.Builders.{with_cue, with_level, with_levels, with_time};
+ghost use Rattle.show.specs.Cues.{HasTimes};
+ghost use Rattle.show.specs.Readers.{cue_above, cue_below};
 
-use crate::cue::{Cue, CueData};
+use crate::cue::{Cue, CueData, CueTime};
 use crate::heap_cue::HeapCue;
-use crate::levels::Levels;
-use crate::rate::Rate;
 use crate::table::Table;
 use std::alloc::{AllocError, Global};
 
@@ -25,13 +23,8 @@ impl CueTable {
         ensures sure { IsTrue (map.contains_key self.old n) → IsOk result }
     {
         if !self.has(n) {
-            let blank = CueData {
-                levels: Levels::new(alloc),
-                up: None,
-                down: None,
-                follow: None,
-            };
-            self.put(n, HeapCue::new(alloc, blank)?)?;
+            let cue = HeapCue::new(alloc, CueData::blank(alloc))?;
+            self.put(n, cue)?;
         }
         Ok(())
     }
@@ -65,27 +58,11 @@ impl CueTable {
         Ok(())
     }
 
-    pub fn set_up(&mut self, n: u32, rate: Rate)
-        ensures { self.new ≡ with_up self.old n rate }
+    pub fn set_time(&mut self, n: u32, time: CueTime)
+        ensures { self.new ≡ with_time self.old n time }
     {
         if let Some(cue) = self.get_mut(n) {
-            cue.set_up(rate);
-        }
-    }
-
-    pub fn set_down(&mut self, n: u32, rate: Rate)
-        ensures { self.new ≡ with_down self.old n rate }
-    {
-        if let Some(cue) = self.get_mut(n) {
-            cue.set_down(rate);
-        }
-    }
-
-    pub fn set_follow(&mut self, n: u32, time: u32)
-        ensures { self.new ≡ with_follow self.old n time }
-    {
-        if let Some(cue) = self.get_mut(n) {
-            cue.set_follow(time);
+            cue.set_time(time);
         }
     }
 

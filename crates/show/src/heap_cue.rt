@@ -1,11 +1,11 @@
-ghost use Rattle.std.specs.Prelude.{◌≡◌, IsTrue, IsOk, IfOk, OnOk, OnErr, Some, []};
+ghost use Rattle.std.specs.Prelude.{◌≡◌, IsTrue, IsOk, IfOk, OnOk, OnErr, []};
 ghost use Rattle.std.specs.List.{list_all};
 ghost use Rattle.std.specs.FinMap as map;
 ghost use Rattle.show.specs.Numbers.{is_channel};
 ghost use Rattle.show.specs.Builders.{with_bytes};
+ghost use Rattle.show.specs.Cues.{cue_with_time};
 
-use crate::cue::CueData;
-use crate::rate::Rate;
+use crate::cue::{CueData, CueTime};
 use crate::table::CloneIn;
 use std::alloc::{AllocError, Global};
 use std::marker::Model;
@@ -62,22 +62,10 @@ impl HeapCue {
         self.cue.levels.set_all(pairs)
     }
 
-    pub fn set_up(&mut self, rate: Rate)
-        ensures { self.new ≡ record self.old { up = Some rate } }
+    pub fn set_time(&mut self, time: CueTime)
+        ensures { self.new ≡ cue_with_time self.old time }
     {
-        self.cue.up = Some(rate);
-    }
-
-    pub fn set_down(&mut self, rate: Rate)
-        ensures { self.new ≡ record self.old { down = Some rate } }
-    {
-        self.cue.down = Some(rate);
-    }
-
-    pub fn set_follow(&mut self, time: u32)
-        ensures { self.new ≡ record self.old { follow = Some time } }
-    {
-        self.cue.follow = Some(time);
+        self.cue.set_time(time);
     }
 }
 

@@ -31,7 +31,7 @@ mod show;
 mod slots;
 mod table;
 
-pub use cue::Cue;
+pub use cue::{Cue, CueTime};
 pub use fault::BuildFault;
 pub use levels::Levels;
 pub use limits::{

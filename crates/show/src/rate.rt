@@ -1,5 +1,5 @@
 ghost use Rattle.std.specs.Prelude.{◌↔◌, IsTrue};
-ghost use Rattle.show.specs.Readers.{IsRateInRange};
+ghost use Rattle.show.specs.Cues.{IsRateInRange};
 
 use crate::limits::LONGEST_TIME;
 

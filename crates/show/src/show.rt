@@ -3,11 +3,11 @@ ghost use Rattle.std.specs.Prelude.{OnOk, OnErr, IfErr, IfSome, Some, Err, All, 
 ghost use Rattle.std.specs.List.{list_all};
 ghost use Rattle.std.specs.Option.{OnSome};
 ghost use Rattle.std.specs.FinMap as map;
-ghost use Rattle.show.specs.Numbers.{is_channel, is_dimmer, is_sub, is_group, is_time};
-ghost use Rattle.show.specs.Builders.{with_cue, can_open, with_level, with_levels};
-ghost use Rattle.show.specs.Builders.{with_up, with_down, with_follow};
+ghost use Rattle.show.specs.Numbers.{is_channel, is_dimmer, is_sub, is_group};
+ghost use Rattle.show.specs.Builders.{with_cue, can_open, with_level, with_levels, with_time};
 ghost use Rattle.show.specs.Builders.{opened_in, with_listed, with_all_listed};
 ghost use Rattle.show.specs.Builders.{can_patch, patched_with, all_patched};
+ghost use Rattle.show.specs.Cues.{IsTimeInRange};
 ghost use Rattle.show.specs.Readers.{cue_above, cue_below, patch_ordinals};
 ghost use Rattle.show.specs.Readers.{look_slot, look_frame, IsInRange};
 ghost use Rattle.show.specs.Codes.{tables_code};
@@ -16,7 +16,7 @@ ghost use Rattle.show.specs.Tables.{Tables};
 ghost use Rattle.show.specs.declared.fault.BuildFault.TheVariants.{Limit};
 
 use crate::Frame;
-use crate::cue::Cue;
+use crate::cue::{Cue, CueTime};
 use crate::cue_table::CueTable;
 use crate::fault::BuildFault;
 use crate::levels::Levels;
@@ -25,7 +25,6 @@ use crate::limits::{
 };
 use crate::master_table::MasterTable;
 use crate::patch_table::PatchTable;
-use crate::rate::Rate;
 use crate::slots::slot;
 use crate::table::CloneIn;
 use arrayvec::ArrayVec;
@@ -298,36 +297,14 @@ impl Show {
         Ok(())
     }
 
-    /// Sets the rate of rising levels of cue `n`; its time and delay are at most 5,999,990
-    /// milliseconds.
-    pub fn set_up(&mut self, n: u32, rate: Rate)
+    /// Sets a time of cue `n`: a rate, whose time and delay are at most 5,999,990 milliseconds, or
+    /// a follow-on time of at most as many. The one of its kind set last counts.
+    pub fn set_time(&mut self, n: u32, time: CueTime)
         requires there { IsTrue (map.contains_key self.old.cues n) }
-        requires time { IsTrue (is_time rate.time) }
-        requires delay { IsTrue (is_time rate.delay) }
-        ensures { self.new ≡ record self.old { cues = with_up self.old.cues n rate } }
+        requires range { IsTimeInRange time }
+        ensures { self.new ≡ record self.old { cues = with_time self.old.cues n time } }
     {
-        self.cues.set_up(n, rate);
-    }
-
-    /// Sets the rate of falling levels of cue `n`; its time and delay are at most 5,999,990
-    /// milliseconds.
-    pub fn set_down(&mut self, n: u32, rate: Rate)
-        requires there { IsTrue (map.contains_key self.old.cues n) }
-        requires time { IsTrue (is_time rate.time) }
-        requires delay { IsTrue (is_time rate.delay) }
-        ensures { self.new ≡ record self.old { cues = with_down self.old.cues n rate } }
-    {
-        self.cues.set_down(n, rate);
-    }
-
-    /// Sets the follow-on time of cue `n`: at most 5,999,990 milliseconds, after which the next cue
-    /// goes.
-    pub fn set_follow(&mut self, n: u32, time: u32)
-        requires there { IsTrue (map.contains_key self.old.cues n) }
-        requires time { IsTrue (is_time time) }
-        ensures { self.new ≡ record self.old { cues = with_follow self.old.cues n time } }
-    {
-        self.cues.set_follow(n, time);
+        self.cues.set_time(n, time);
     }
 
     /// Takes all cues away.

@@ -7,16 +7,19 @@ use Rattle.show_line.proofs.Terms.{All-weaker, none-some, same_word, number_of, 
 use Rattle.show_line.proofs.Terms.{cue_number_of, is_within, is_time, LineFault, BadNumber, BadTime}
 use Rattle.show_line.proofs.Terms.{Keyword, Clear, Ident, Cue, Group, Sub, Patch, Chan, Up, Down}
 use Rattle.show_line.proofs.Terms.{FollowOn, Remark, Cleared, Record, Statement, Opens, Levels}
-use Rattle.show_line.proofs.Terms.{Rises, Falls, Follows, Patches, Clears, Quiet, Skipped, Faulty}
+use Rattle.show_line.proofs.Terms.{CueTime, SetsTime, Patches, Clears, Quiet, Skipped, Faulty}
 use Rattle.show_line.proofs.Terms.{Triple, value_for, may_own, lower, unless, number_fault}
 use Rattle.show_line.proofs.Terms.{cue_fault, page_fault, time_fault, Limits, desk_limits}
 use Rattle.show_line.proofs.Terms.{pair_fault, pairs_in, triple_fault, triples_in, unless_faulty}
 use Rattle.show_line.proofs.Terms.{is_page_1, record_said, cue_named, group_named, sub_named}
 use Rattle.show_line.proofs.Terms.{patch_said, rate_fault, rate_in, ident_said, cleared_names}
-use Rattle.show_line.proofs.Terms.{follow_fault, follow_in, clear_said, statement_in}
+use Rattle.show_line.proofs.Terms.{follow_fault, follow_in, clear_said, owned_said, time_said}
+use Rattle.show_line.proofs.Terms.{read_as, Ok, Err}
+use Rattle.show_line.proofs.Terms.{statement_in}
 use Rattle.show_line.proofs.Terms.{IsRecordInRange, IsPairInRange, IsTripleInRange, IsRateInRange}
-use Rattle.show_line.proofs.Terms.{IsSound}
+use Rattle.show_line.proofs.Terms.{IsTimeInRange, IsSound}
 use Rattle.show_line.specs.declared.fault.LineFault.TheVariants.{Ident as BadIdent}
+use Rattle.show.specs.declared.cue.CueTime.TheVariants as cue_time
 use Rattle.show_line.specs.declared.statement.Record.TheVariants as record_of
 use Rattle.show_line.proofs.Lowest.{lower_both}
 use Rattle.show_line.proofs.Ranges.{number_in_range, next_pair, next_triple}
@@ -34,9 +37,7 @@ IsTripleWithin lim t = (t.channel ≤ lim.channels) × (1 ≤ t.dimmer) × (t.di
 abbrev pub IsSaid : Limits → Option Record → Bool → Statement → Type 0
 IsSaid lim owner own (Opens which) = IsRecordInRange which
 IsSaid lim owner own (Levels which pairs) = (owner ≡ Some which) × All (IsPairWithin lim) pairs
-IsSaid lim owner own (Rises n rate) = (owner ≡ Some (record_of.Cue n)) × IsRateInRange rate
-IsSaid lim owner own (Falls n rate) = (owner ≡ Some (record_of.Cue n)) × IsRateInRange rate
-IsSaid lim owner own (Follows n time) = (owner ≡ Some (record_of.Cue n)) × IsTrue (is_time time)
+IsSaid lim owner own (SetsTime n time) = (owner ≡ Some (record_of.Cue n)) × IsTimeInRange time
 IsSaid lim owner own (Patches triples) = All (IsTripleWithin lim) triples
 IsSaid lim owner own (Clears what) = own ≡ true
 IsSaid lim owner own _ = Unit {0}
@@ -155,6 +156,14 @@ said-clear lim owner (what ∷ []) = of_table (value_for cleared_names what)
     of_table (Some c) = refl
 said-clear lim owner (what ∷ more ∷ words) = tt
 
+-- a time in its range where its words have no fault
+said-time : {X : Type 0} (lim : Limits) (owner : Option Record) (time : X → CueTime)
+    (fault : Option LineFault) (x : X) → (fault ≡ None → IsTimeInRange (time x))
+    → IsSaid lim owner false
+    (owned_said owner (time_said (read_as time (option_map_or Err fault (Ok x)))))
+said-time lim (Some (record_of.Cue n)) time None x fits = (refl, fits refl)
+said-time lim owner time fault x fits = tt
+
 pub said_is : (lim : Limits) (owner : Option Record) (keyword : Keyword) (words : List (List ℕ))
     → IsSaid lim owner (may_own keyword) (statement_in lim owner keyword words)
 said_is lim owner Clear words = said-clear lim owner words
@@ -168,15 +177,13 @@ said_is lim owner Patch words = said-patch lim owner true words
 said_is lim (Some r) Chan words =
     said-unless_faulty lim (Some r) false (pair_fault lim words) (Levels r (pairs_in words))
     (λ e. (refl, pairs_within lim words e))
-said_is lim (Some (record_of.Cue n)) Up words =
-    said-unless_faulty lim (Some (record_of.Cue n)) false (rate_fault words)
-    (Rises n (rate_in words)) (λ e. (refl, rate_in_range words e))
-said_is lim (Some (record_of.Cue n)) Down words =
-    said-unless_faulty lim (Some (record_of.Cue n)) false (rate_fault words)
-    (Falls n (rate_in words)) (λ e. (refl, rate_in_range words e))
-said_is lim (Some (record_of.Cue n)) FollowOn words =
-    said-unless_faulty lim (Some (record_of.Cue n)) false (follow_fault words)
-    (Follows n (follow_in words)) (λ e. (refl, follow_in_range words e))
+said_is lim owner Up words =
+    said-time lim owner cue_time.Up (rate_fault words) (rate_in words) (rate_in_range words)
+said_is lim owner Down words =
+    said-time lim owner cue_time.Down (rate_fault words) (rate_in words) (rate_in_range words)
+said_is lim owner FollowOn words =
+    said-time lim owner cue_time.Follow (follow_fault words) (follow_in words)
+    (follow_in_range words)
 said_is lim None Remark words = tt
 said_is lim owner keyword words = tt
 
@@ -187,9 +194,7 @@ said_sound owner own (Opens which) h = h
 said_sound owner own (Levels which pairs) h =
     All-weaker (IsPairWithin desk_limits) IsPairInRange (λ p w. is_within-le 4096 p.0 w.0 w.1)
     pairs h.1
-said_sound owner own (Rises n rate) h = h.1
-said_sound owner own (Falls n rate) h = h.1
-said_sound owner own (Follows n time) h = h.1
+said_sound owner own (SetsTime n time) h = h.1
 said_sound owner own (Patches triples) h =
     All-weaker (IsTripleWithin desk_limits) IsTripleInRange (λ t w. grind (arith, nat_tests))
     triples h

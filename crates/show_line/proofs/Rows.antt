@@ -1,6 +1,7 @@
 -- What single lines say, evaluated.
 use Rattle.std.specs.Prelude.{◌≡◌, ℕ, List, [], ◌∷◌, codes, Option, Some, None, option_map, refl}
 use Rattle.ascii_text.specs.Text.{words_of}
+use Rattle.show.specs.declared.cue.CueTime.TheVariants.{Up, Down, Follow}
 use Rattle.show_line.specs.declared.fault.LineFault.TheVariants.{MissingNumber, BadNumber}
 use Rattle.show_line.specs.declared.fault.LineFault.TheVariants.{BadLevel}
 use Rattle.show_line.specs.declared.fault.LineFault.TheVariants.{BadTime, HalfPair}
@@ -8,8 +9,8 @@ use Rattle.show_line.specs.declared.fault.LineFault.TheVariants.{Limit}
 use Rattle.show_line.specs.declared.statement.Cleared.TheVariants.{All, Only}
 use Rattle.show_line.specs.declared.statement.Record.TheVariants.{Cue, Group, Sub}
 use Rattle.show_line.specs.declared.statement.Statement.{Statement}
-use Rattle.show_line.specs.declared.statement.Statement.TheVariants.{Opens, Levels, Rises, Falls}
-use Rattle.show_line.specs.declared.statement.Statement.TheVariants.{Follows, Patches}
+use Rattle.show_line.specs.declared.statement.Statement.TheVariants.{Opens, Levels, SetsTime}
+use Rattle.show_line.specs.declared.statement.Statement.TheVariants.{Patches}
 use Rattle.show_line.specs.declared.statement.Statement.TheVariants.{Clears, Quiet, Skipped, Faulty}
 use Rattle.show_line.specs.declared.statement.Table.TheVariants.{Cues, Patch}
 use Rattle.show_line.specs.Said.{desk_limits, line_reading}
@@ -96,8 +97,8 @@ within_records :
     (in_cue (codes "  Chan 1/Hff 2/H80 ! house")
     ≡ Some (Levels (Cue 1000) ((1, 255) ∷ (2, 128) ∷ [])))
     × (in_cue (codes "CHAN") ≡ Some (Levels (Cue 1000) []))
-    × (in_cue (codes "UP 5 3") ≡ Some (Rises 1000 (record { time = 5000; delay = 3000 })))
-    × (in_cue (codes "Down .5") ≡ Some (Falls 1000 (record { time = 500; delay = 0 })))
+    × (in_cue (codes "UP 5 3") ≡ Some (SetsTime 1000 (Up (record { time = 5000; delay = 3000 }))))
+    × (in_cue (codes "Down .5") ≡ Some (SetsTime 1000 (Down (record { time = 500; delay = 0 }))))
 within_records = (refl, refl, refl, refl)
 
 -- a time in a cue; in a group it is not looked at
@@ -108,9 +109,9 @@ follow_faults : (in_cue (codes "FOLLOWON x") ≡ Some (Faulty BadTime))
     × (alone (codes "FOLLOWON 10") ≡ Some Skipped)
 follow_faults = (refl, refl, refl, refl, refl)
 
-follow_times : (in_cue (codes "FOLLOWON 10") ≡ Some (Follows 1000 10000))
-    × (in_cue (codes "FollowOn 0 x") ≡ Some (Follows 1000 0))
-    × (in_cue (codes "FOLLOWON 99:59.99") ≡ Some (Follows 1000 5999990))
+follow_times : (in_cue (codes "FOLLOWON 10") ≡ Some (SetsTime 1000 (Follow 10000)))
+    × (in_cue (codes "FollowOn 0 x") ≡ Some (SetsTime 1000 (Follow 0)))
+    × (in_cue (codes "FOLLOWON 99:59.99") ≡ Some (SetsTime 1000 (Follow 5999990)))
     × (in_cue (codes "FOLLOWON 1:60") ≡ Some (Faulty BadTime))
 follow_times = (refl, refl, refl, refl)
 

@@ -33,8 +33,8 @@ pub use Rattle.show_line.specs.declared.keyword.Keyword.TheVariants.{Setting, Ma
 pub use Rattle.show_line.specs.declared.statement.Cleared.{Cleared}
 pub use Rattle.show_line.specs.declared.statement.Record.{Record}
 pub use Rattle.show_line.specs.declared.statement.Statement.{Statement}
-pub use Rattle.show_line.specs.declared.statement.Statement.TheVariants.{Opens, Levels, Rises}
-pub use Rattle.show_line.specs.declared.statement.Statement.TheVariants.{Falls, Follows, Patches}
+pub use Rattle.show_line.specs.declared.statement.Statement.TheVariants.{Opens, Levels, SetsTime}
+pub use Rattle.show_line.specs.declared.statement.Statement.TheVariants.{Patches}
 pub use Rattle.show_line.specs.declared.statement.Statement.TheVariants.{Clears, Quiet, Skipped}
 pub use Rattle.show_line.specs.declared.statement.Statement.TheVariants.{Faulty}
 pub use Rattle.show_line.specs.declared.triples.Triple.{Triple}
@@ -44,10 +44,11 @@ pub use Rattle.show_line.specs.Pairs.{triples_in}
 pub use Rattle.show_line.specs.Said.{unless_faulty, is_page_1, record_said, cue_named, group_named}
 pub use Rattle.show_line.specs.Said.{sub_named, patch_said, rate_fault, rate_in, ident_said}
 pub use Rattle.show_line.specs.Said.{cleared_names, follow_fault, follow_in, clear_said}
-pub use Rattle.show_line.specs.Said.{statement_in, levels_said, owned_said}
+pub use Rattle.show_line.specs.Said.{statement_in, levels_said, owned_said, time_said, read_as}
 pub use Rattle.show_line.specs.Sound.{IsRecordInRange, IsPairInRange, IsTripleInRange, IsSound}
 pub use Rattle.show_line.specs.Sound.{IsFaultless}
-pub use Rattle.show.specs.Readers.{IsRateInRange}
+pub use Rattle.show.specs.Cues.{IsRateInRange, IsTimeInRange}
+pub use Rattle.show.specs.declared.cue.CueTime.{CueTime}
 pub use Rattle.std.proofs.lemmas.Grind.{common_steps}
 pub use Rattle.ascii_text.specs.Text.{words_of}
 pub use Rattle.std.proofs.Math.Seq.{drop-length, take-append_seam}

@@ -1,9 +1,8 @@
 -- What a line says without a fault, it says under wider limits too.
 use Rattle.show_line.proofs.Terms.{◌≡◌, ℕ, ◌≤◌, Bool, true, false, List, [], ◌∷◌, refl, ap, arith}
 use Rattle.show_line.proofs.Terms.{Option, Some, None, if◌then◌else◌, nat_tests, common_steps}
-use Rattle.show_line.proofs.Terms.{number_of, LineFault, HalfPair, HalfTriple, Keyword, Clear}
-use Rattle.show_line.proofs.Terms.{Ident, Cue, Group, Sub, Patch, EndData, Setting, Chan, Up, Down}
-use Rattle.show_line.proofs.Terms.{FollowOn, Remark, Maker, Unknown, Record, Statement, Levels}
+use Rattle.show_line.proofs.Terms.{number_of, LineFault, HalfPair, HalfTriple, Keyword, Patch}
+use Rattle.show_line.proofs.Terms.{Chan, Record, Statement, Levels}
 use Rattle.show_line.proofs.Terms.{Patches, Skipped, range_fault, number_fault, lower, page_fault}
 use Rattle.show_line.proofs.Terms.{Limits, pair_fault, pairs_in, triple_fault, triples_in}
 use Rattle.show_line.proofs.Terms.{unless_faulty, is_page_1, patch_said, levels_said, owned_said}
@@ -78,18 +77,6 @@ module _
   pub said_wider : (owner : Option Record) (keyword : Keyword) (words : List (List ℕ))
       → IsFaultless (statement_in narrow owner keyword words)
       → statement_in wide owner keyword words ≡ statement_in narrow owner keyword words
-  said_wider owner Clear words fine = refl
-  said_wider owner Ident words fine = refl
-  said_wider owner Cue words fine = refl
-  said_wider owner Group words fine = refl
-  said_wider owner Sub words fine = refl
   said_wider owner Patch words fine = patch_wider words fine
-  said_wider owner EndData words fine = refl
-  said_wider owner Setting words fine = refl
   said_wider owner Chan words fine = chan_wider owner words fine
-  said_wider owner Up words fine = refl
-  said_wider owner Down words fine = refl
-  said_wider owner FollowOn words fine = refl
-  said_wider owner Remark words fine = refl
-  said_wider owner Maker words fine = refl
-  said_wider owner Unknown words fine = refl
+  said_wider owner keyword words fine = refl

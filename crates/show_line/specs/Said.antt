@@ -1,9 +1,11 @@
 -- What a line says, by its keyword, the record that owns it, and the words behind the keyword.
 use Rattle.std.specs.Prelude.{ℕ, Bool, true, ◌==◌, if◌then◌else◌, List, [], ◌∷◌, codes, Option}
-use Rattle.std.specs.Prelude.{Some, None}
+use Rattle.std.specs.Prelude.{Some, None, Result, Ok, Err}
 use Rattle.std.specs.Prelude.{unwrap_or}
 use Rattle.std.specs.Option.{option_map_or}
 use Rattle.ascii_text.specs.Forms.{same_word, number_of, time_of, cue_number_of}
+use Rattle.show.specs.declared.cue.CueTime.{CueTime}
+use Rattle.show.specs.declared.cue.CueTime.TheVariants as cue_time
 use Rattle.show.specs.declared.rate.Rate.{Rate}
 use Rattle.show_line.specs.declared.fault.LineFault.{LineFault}
 use Rattle.show_line.specs.declared.fault.LineFault.TheVariants.{MissingNumber}
@@ -21,8 +23,8 @@ use Rattle.show_line.specs.declared.statement.Cleared.{Cleared}
 use Rattle.show_line.specs.declared.statement.Cleared.TheVariants.{All, Only}
 use Rattle.show_line.specs.declared.line.Reading.{Reading}
 use Rattle.show_line.specs.declared.statement.Statement.{Statement}
-use Rattle.show_line.specs.declared.statement.Statement.TheVariants.{Opens, Levels, Rises, Falls}
-use Rattle.show_line.specs.declared.statement.Statement.TheVariants.{Follows, Patches}
+use Rattle.show_line.specs.declared.statement.Statement.TheVariants.{Opens, Levels, SetsTime}
+use Rattle.show_line.specs.declared.statement.Statement.TheVariants.{Patches}
 use Rattle.show_line.specs.declared.statement.Statement.TheVariants.{Clears, Quiet, Skipped, Faulty}
 use Rattle.show_line.specs.Keywords.{value_for, keyword_of}
 use Rattle.show_line.specs.Faults.{lower, number_fault, cue_fault, page_fault, time_fault}
@@ -83,9 +85,9 @@ rate_in (time ∷ delay ∷ words) =
 rate_in (time ∷ []) = record { time = unwrap_or (time_of time) 0; delay = 0 }
 rate_in [] = record { time = 0; delay = 0 }
 
--- UP or DOWN of a cue
-abbrev pub rate_said : (Rate → Statement) → List (List ℕ) → Statement
-rate_said says words = unless_faulty (rate_fault words) (says (rate_in words))
+-- the rate, or the fault where there is one
+abbrev pub rate_read : List (List ℕ) → Result Rate LineFault
+rate_read words = option_map_or Err (rate_fault words) (Ok (rate_in words))
 
 -- the fault of the words of FOLLOWON: a time must be there; words behind it are ignored
 abbrev pub follow_fault : List (List ℕ) → Option LineFault
@@ -97,9 +99,9 @@ abbrev pub follow_in : List (List ℕ) → ℕ
 follow_in [] = 0
 follow_in (time ∷ words) = unwrap_or (time_of time) 0
 
--- FOLLOWON of a cue
-abbrev pub follow_said : ℕ → List (List ℕ) → Statement
-follow_said n words = unless_faulty (follow_fault words) (Follows n (follow_in words))
+-- the time, or the fault where there is one
+abbrev pub follow_read : List (List ℕ) → Result ℕ LineFault
+follow_read words = option_map_or Err (follow_fault words) (Ok (follow_in words))
 
 -- IDENT: the version must be 3:0; words behind it are ignored
 abbrev pub ident_said : List (List ℕ) → Statement
@@ -127,11 +129,18 @@ owned_said owner says = option_map_or says owner Skipped
 abbrev pub levels_said : Limits → List (List ℕ) → Record → Statement
 levels_said lim words which = unless_faulty (pair_fault lim words) (Levels which (pairs_in words))
 
--- UP, DOWN and FOLLOWON count for a cue, and have no effect in a group or a submaster
-abbrev pub cue_said : (ℕ → Statement) → Record → Statement
-cue_said says (record_of.Cue n) = says n
-cue_said says (record_of.Group n) = Quiet
-cue_said says (record_of.Sub n) = Quiet
+-- a value as a time of a cue
+abbrev pub read_as : {X : Type 0} → (X → CueTime) → Result X LineFault → Result CueTime LineFault
+read_as time (Ok x) = Ok (time x)
+read_as time (Err fault) = Err fault
+
+-- UP, DOWN and FOLLOWON: the time of a cue that was read, or the fault; they have no effect in a
+-- group or a submaster
+abbrev pub time_said : Result CueTime LineFault → Record → Statement
+time_said (Ok time) (record_of.Cue n) = SetsTime n time
+time_said (Err fault) (record_of.Cue n) = Faulty fault
+time_said read (record_of.Group n) = Quiet
+time_said read (record_of.Sub n) = Quiet
 
 -- what a line says; groups are numbered from 1 to 500, and submasters from 1 to 100
 abbrev pub statement_in : Limits → Option Record → Keyword → List (List ℕ) → Statement
@@ -144,9 +153,12 @@ statement_in lim owner Patch words = patch_said lim words
 statement_in lim owner EndData words = Quiet
 statement_in lim owner Setting words = Quiet
 statement_in lim owner Chan words = owned_said owner (levels_said lim words)
-statement_in lim owner Up words = owned_said owner (cue_said (λ n. rate_said (Rises n) words))
-statement_in lim owner Down words = owned_said owner (cue_said (λ n. rate_said (Falls n) words))
-statement_in lim owner FollowOn words = owned_said owner (cue_said (λ n. follow_said n words))
+statement_in lim owner Up words =
+    owned_said owner (time_said (read_as cue_time.Up (rate_read words)))
+statement_in lim owner Down words =
+    owned_said owner (time_said (read_as cue_time.Down (rate_read words)))
+statement_in lim owner FollowOn words =
+    owned_said owner (time_said (read_as cue_time.Follow (follow_read words)))
 statement_in lim owner Remark words = owned_said owner (λ r. Quiet)
 statement_in lim owner Maker words = Skipped
 statement_in lim owner Unknown words = Skipped

@@ -1,13 +1,13 @@
 -- What holds of every statement that a line says: its numbers are in their ranges.
 use Rattle.std.specs.Prelude.{ℕ, IsTrue, All}
-use Rattle.show.specs.Numbers.{is_cue_number, is_group, is_sub, is_channel, is_time}
-use Rattle.show.specs.Readers.{IsRateInRange}
+use Rattle.show.specs.Numbers.{is_cue_number, is_group, is_sub, is_channel}
+use Rattle.show.specs.Cues.{IsTimeInRange}
 use Rattle.show.specs.Builders.{can_patch}
 use Rattle.show_line.specs.declared.statement.Record.{Record}
 use Rattle.show_line.specs.declared.statement.Record.TheVariants as record_of
 use Rattle.show_line.specs.declared.statement.Statement.{Statement}
-use Rattle.show_line.specs.declared.statement.Statement.TheVariants.{Opens, Levels, Rises, Falls}
-use Rattle.show_line.specs.declared.statement.Statement.TheVariants.{Follows, Patches}
+use Rattle.show_line.specs.declared.statement.Statement.TheVariants.{Opens, Levels, SetsTime}
+use Rattle.show_line.specs.declared.statement.Statement.TheVariants.{Patches}
 use Rattle.show_line.specs.declared.statement.Statement.TheVariants.{Faulty}
 use Rattle.show_line.specs.declared.triples.Triple.{Triple}
 
@@ -29,9 +29,7 @@ IsTripleInRange triple = IsTrue (can_patch triple.dimmer triple.channel)
 abbrev pub IsSound : Statement → Type 0
 IsSound (Opens which) = IsRecordInRange which
 IsSound (Levels which pairs) = All IsPairInRange pairs
-IsSound (Rises n rate) = IsRateInRange rate
-IsSound (Falls n rate) = IsRateInRange rate
-IsSound (Follows n time) = IsTrue (is_time time)
+IsSound (SetsTime n time) = IsTimeInRange time
 IsSound (Patches triples) = All IsTripleInRange triples
 IsSound _ = Unit {0}
 

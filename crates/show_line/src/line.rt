@@ -1,4 +1,4 @@
-ghost use Rattle.std.specs.Prelude.{◌≡◌, MatchResult, IfSome};
+ghost use Rattle.std.specs.Prelude.{◌≡◌, Some, None, MatchResult, IfSome};
 ghost use Rattle.ascii_text.specs.LinesLeft.{words_left};
 ghost use Rattle.ascii_text.specs.Text.{words_of};
 ghost use Rattle.show_line.specs.declared.statement.Record.{Record};
@@ -7,8 +7,7 @@ ghost use Rattle.show_line.specs.Keywords.{value_for};
 ghost use Rattle.show_line.specs.Pairs.{desk_limits};
 ghost use Rattle.show_line.specs.Said.{cleared_names, clear_said, ident_said, record_said, on_page};
 ghost use Rattle.show_line.specs.Said.{cue_named, group_named, sub_named, patch_said, owned_said};
-ghost use Rattle.show_line.specs.Said.{levels_said, cue_said, rate_said, rate_fault, rate_in};
-ghost use Rattle.show_line.specs.Said.{follow_said, follow_fault, follow_in};
+ghost use Rattle.show_line.specs.Said.{levels_said, time_said, rate_read, follow_read};
 ghost use Rattle.show_line.specs.Said.{statement_in, line_reading};
 ghost use Rattle.show_line.specs.Sound.{IsSound};
 
@@ -18,7 +17,7 @@ use crate::pairs::Pairs;
 use crate::statement::{Cleared, Record, Statement, Table};
 use crate::triples::Triples;
 use ascii_text::{Words, cue_number, number, same_word, time};
-use show::{GROUPS, Rate, SUBMASTERS};
+use show::{CueTime, GROUPS, Rate, SUBMASTERS};
 
 /// A line that has words: what its first word makes of it, and what it says.
 #[derive(Debug, Drop)]
@@ -55,9 +54,9 @@ fn statement<'a>(owner: Option<Record>, keyword: Keyword, operands: &'a [u8]) ->
         Keyword::Patch => patch_statement(operands),
         Keyword::EndData | Keyword::Setting => Statement::Quiet,
         Keyword::Chan => chan_statement(owner, operands),
-        Keyword::Up => up_statement(owner, operands),
-        Keyword::Down => down_statement(owner, operands),
-        Keyword::FollowOn => follow_statement(owner, operands),
+        Keyword::Up => time_statement(owner, rate(operands).map(CueTime::Up)),
+        Keyword::Down => time_statement(owner, rate(operands).map(CueTime::Down)),
+        Keyword::FollowOn => time_statement(owner, follow_time(operands).map(CueTime::Follow)),
         Keyword::Remark if owner.is_some() => Statement::Quiet,
         Keyword::Remark | Keyword::Maker | Keyword::Unknown => Statement::Skipped,
     }
@@ -184,40 +183,23 @@ fn chan_statement<'a>(owner: Option<Record>, operands: &'a [u8]) -> Statement<'a
     }
 }
 
-fn up_statement<'a>(owner: Option<Record>, operands: &'a [u8]) -> Statement<'a>
-    ensures { result
-        ≡ owned_said owner (cue_said (λ n. rate_said (Statement.Rises n) (words_of operands.now))) }
+// A line that times its cue, by what its words spell.
+fn time_statement<'a>(owner: Option<Record>, time: Result<CueTime, LineFault>) -> Statement<'a>
+    ensures { result ≡ owned_said owner (time_said time) }
 {
     match owner {
-        Some(Record::Cue(n)) => match rate(operands) {
-            Ok(rate) => Statement::Rises(n, rate),
+        Some(Record::Cue(n)) => match time {
+            Ok(time) => Statement::SetsTime(n, time),
             Err(fault) => Statement::Faulty(fault),
         },
-        Some(_) => Statement::Quiet,
-        None => Statement::Skipped,
-    }
-}
-
-fn down_statement<'a>(owner: Option<Record>, operands: &'a [u8]) -> Statement<'a>
-    ensures { result
-        ≡ owned_said owner (cue_said (λ n. rate_said (Statement.Falls n) (words_of operands.now))) }
-{
-    match owner {
-        Some(Record::Cue(n)) => match rate(operands) {
-            Ok(rate) => Statement::Falls(n, rate),
-            Err(fault) => Statement::Faulty(fault),
-        },
-        Some(_) => Statement::Quiet,
+        Some(Record::Group(_) | Record::Sub(_)) => Statement::Quiet,
         None => Statement::Skipped,
     }
 }
 
 // The rate that the words of UP or DOWN spell.
 fn rate(operands: &[u8]) -> Result<Rate, LineFault>
-    ensures { MatchResult result
-        (λ rate. (rate_fault (words_of operands.now) ≡ None)
-        × (rate ≡ rate_in (words_of operands.now)))
-        (λ fault. rate_fault (words_of operands.now) ≡ Some fault) }
+    ensures { result ≡ rate_read (words_of operands.now) }
 {
     let mut words = Words::new(operands);
     let first = words.next().ok_or(LineFault::MissingNumber)?;
@@ -231,25 +213,9 @@ fn rate(operands: &[u8]) -> Result<Rate, LineFault>
     }
 }
 
-fn follow_statement<'a>(owner: Option<Record>, operands: &'a [u8]) -> Statement<'a>
-    ensures { result ≡ owned_said owner (cue_said (λ n. follow_said n (words_of operands.now))) }
-{
-    match owner {
-        Some(Record::Cue(n)) => match follow_time(operands) {
-            Ok(time) => Statement::Follows(n, time),
-            Err(fault) => Statement::Faulty(fault),
-        },
-        Some(Record::Group(_) | Record::Sub(_)) => Statement::Quiet,
-        None => Statement::Skipped,
-    }
-}
-
 // The time that the words of FOLLOWON spell.
 fn follow_time(operands: &[u8]) -> Result<u32, LineFault>
-    ensures { MatchResult result
-        (λ time. (follow_fault (words_of operands.now) ≡ None)
-        × (time ≡ follow_in (words_of operands.now)))
-        (λ fault. follow_fault (words_of operands.now) ≡ Some fault) }
+    ensures { result ≡ follow_read (words_of operands.now) }
 {
     match Words::new(operands).next() {
         Some(word) => time(word).ok_or(LineFault::BadTime),

@@ -1,7 +1,7 @@
 use crate::fault::LineFault;
 use crate::pairs::Pairs;
 use crate::triples::Triples;
-use show::Rate;
+use show::CueTime;
 
 /// What a CUE, GROUP or SUB line opens: a cue by its number in thousandths, a group or a submaster.
 #[derive(Clone, Copy, Debug, PartialEq, Eq)]
@@ -34,12 +34,9 @@ pub enum Statement<'a> {
     Opens(Record),
     /// It lists levels of a record: the pairs of a CHAN line.
     Levels(Record, Pairs<'a>),
-    /// The time and delay of a cue's rising levels; the cue is named by its number in thousandths.
-    Rises(u32, Rate),
-    /// The time and delay of a cue's falling levels.
-    Falls(u32, Rate),
-    /// The follow-on time of a cue in milliseconds: so long after the move to it the next one goes.
-    Follows(u32, u32),
+    /// It sets a time of a cue, which is named by its number in thousandths: a rate, or the
+    /// follow-on time.
+    SetsTime(u32, CueTime),
     /// It patches dimmers: the triples of a PATCH line.
     Patches(Triples<'a>),
     /// It empties tables.

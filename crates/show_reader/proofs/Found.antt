@@ -7,10 +7,11 @@ use Rattle.std.specs.Ordering.{nat_cmp}
 use Rattle.std.specs.Cmp.{nat_cmp_total, unsigned_tied}
 use Rattle.std.specs.FinMap as maps
 use Rattle.std.proofs.lemmas.Bool.Decides.{nat_tests}
-use Rattle.show_reader.specs.Terms.{PatchMap, Tables, Record, Cue, Statement, Levels, Patches}
-use Rattle.show_reader.specs.Terms.{Clears, All, Triple}
+use Rattle.show_reader.specs.Terms.{PatchMap, Tables, Record, Cue, Statement, Levels, SetsTime}
+use Rattle.show_reader.specs.Terms.{Patches, Clears, All, Triple}
 use Rattle.show.specs.Builders.{patched_with, all_patched}
-use Rattle.show_reader.specs.Keys.{Key, There, Level, Dimmer, has_record, answer_for}
+use Rattle.show.proofs.Cues.{time_set, no_time, levels_stay}
+use Rattle.show_reader.specs.Keys.{Key, There, Level, Time, Dimmer, has_record, answer_for}
 use Rattle.show_reader.specs.Meaning.{after, pair_says, triple_says, says, cue_count}
 use Rattle.show_reader.specs.Meaning.{is_record_there}
 use Rattle.show_reader.specs.Shows.{IsShowOf}
@@ -76,6 +77,12 @@ pub applied_found : (s : Statement) (show : Tables) → HasOwner show s → (k :
     → answer_for (show_after s show) k ≡ after (says s k) (answer_for show k)
 applied_found (Levels r ps) show owned k = pairs_found show r ps owned k
 applied_found (Patches ts) show owned k = triples_found show ts k
+applied_found (SetsTime n time) show owned (Time m name) =
+    grind (arith, get-insert, time_set, nat_tests)
+applied_found (SetsTime n time) show owned (Level (Cue m) c) =
+    grind (arith, get-insert, levels_stay, nat_tests)
+applied_found s show owned (Time m name) =
+    grind (arith, get-insert, maps.get-empty, no_time, nat_tests)
 applied_found s show owned (There (Cue m)) = grind (arith, get-insert, maps.get-empty, nat_tests)
 applied_found s show owned (Level (Cue m) c) = grind (arith, get-insert, maps.get-empty, nat_tests)
 applied_found s show owned k = grind (arith, get-insert, maps.get-empty, nat_tests)

@@ -4,12 +4,13 @@ use Rattle.std.proofs.Common.{option_and_then}
 use Rattle.std.specs.Ordering.{nat_cmp}
 use Rattle.std.specs.FinMap as maps
 use Rattle.std.proofs.lemmas.Cmp.{nat_cmp_total}
-use Rattle.show_reader.specs.Terms.{CueData, LevelMap, Tables, Record, Cue, Group, Sub, Statement}
+use Rattle.show.proofs.Cues.{same_cue}
+use Rattle.show_reader.specs.Terms.{CueData, LevelMap, Tables, TimeName, time_in, Record, Cue}
+use Rattle.show_reader.specs.Terms.{Group, Sub, Statement}
 use Rattle.show_line.specs.Said.{desk_limits}
 use Rattle.show_reader.specs.Text.{statements_of}
 use Rattle.show_reader.specs.ItsShow.{OfItsShow}
-use Rattle.show_reader.specs.Keys.{Key, There, Level, Up, Down, Follow, Dimmer, has_record}
-use Rattle.show_reader.specs.Keys.{answer_for}
+use Rattle.show_reader.specs.Keys.{Key, There, Level, Time, Dimmer, has_record, answer_for}
 use Rattle.show_reader.specs.Shows.{IsShowOf}
 use Rattle.show_reader.proofs.Found.{record_is}
 
@@ -25,16 +26,15 @@ same_levels : (a b : Option LevelMap) → is_some a ≡ is_some b
 same_levels (Some a) (Some b) there each = ap Some (same_map a b each)
 same_levels a b there each = grind arith
 
--- cues that are there alike, with alike levels, rates and follow-on times, are alike
+-- cues that are there alike, with alike levels and times, are alike
 same_cues : (a b : Option CueData) → is_some a ≡ is_some b
     → ((c : ℕ) → option_and_then (λ cue. maps.get cue.levels c) a
     ≡ option_and_then (λ cue. maps.get cue.levels c) b)
-    → option_and_then (λ cue. cue.up) a ≡ option_and_then (λ cue. cue.up) b
-    → option_and_then (λ cue. cue.down) a ≡ option_and_then (λ cue. cue.down) b
-    → option_and_then (λ cue. cue.follow) a ≡ option_and_then (λ cue. cue.follow) b → a ≡ b
-same_cues (Some a) (Some b) there levels ups downs follows =
-    grind (arith, same_map a.levels b.levels levels)
-same_cues a b there levels ups downs follows = grind arith
+    → ((name : TimeName) → option_and_then (λ cue. time_in cue name) a
+    ≡ option_and_then (λ cue. time_in cue name) b) → a ≡ b
+same_cues (Some a) (Some b) there levels times =
+    ap Some (same_cue a b (same_map a.levels b.levels levels) times)
+same_cues a b there levels times = grind arith
 
 -- tables that are alike one by one
 pub same_tables : (s t : Tables) → s.cues ≡ t.cues → s.subs ≡ t.subs → s.groups ≡ t.groups
@@ -48,7 +48,7 @@ same_show ss s t a b =
     let there : (r : Record) → has_record s r ≡ has_record t r = λ r.
     sym (record_is s r) ∙ ap is_some (same (There r)) ∙ record_is t r in
     same_tables s t (same_map _ _ (λ n. same_cues _ _ (there (Cue n)) (λ c. same (Level (Cue n) c))
-    (same (Up n)) (same (Down n)) (same (Follow n))))
+    (λ name. same (Time n name))))
     (same_map _ _ (λ n. same_levels _ _ (there (Sub n)) (λ c. same (Level (Sub n) c))))
     (same_map _ _ (λ n. same_levels _ _ (there (Group n)) (λ c. same (Level (Group n) c))))
     (same_map _ _ (λ d. same (Dimmer d)))

@@ -11,7 +11,8 @@ use Rattle.show_reader.specs.declared.fault.ShowFault.TheVariants.{Ident, Missin
 use Rattle.show_reader.specs.declared.fault.ShowFault.TheVariants.{BadLevel, BadTime, HalfPair}
 use Rattle.show_reader.specs.declared.fault.ShowFault.TheVariants.{HalfTriple, Limit}
 use Rattle.show_reader.specs.Text.{statements_of}
-use Rattle.show_reader.specs.Keys.{Level, Up, Down, Follow, Dimmer}
+use Rattle.show_reader.specs.Keys.{Level, Time, Dimmer}
+use Rattle.show.specs.Cues.{UpTime, DownTime, FollowTime}
 use Rattle.show_reader.specs.Meaning.{is_record_there, meaning, cue_count}
 use Rattle.show_reader.specs.Reading.{fault_below, text_fault, lines_read, lines_skipped, grows}
 use Rattle.show_reader.specs.Reading.{faultless_front}
@@ -200,8 +201,8 @@ cleared_cues = statements_of desk_limits (text_of (
     ))
 
 other_tables : (meaning cleared_cues (Level (Cue 1000) 1) ≡ None)
-    × (meaning cleared_cues (Up 1000) ≡ None)
-    × (meaning cleared_cues (Down 1000) ≡ None)
+    × (meaning cleared_cues (Time 1000 UpTime) ≡ None)
+    × (meaning cleared_cues (Time 1000 DownTime) ≡ None)
     × (is_record_there (Group 1) cleared_cues ≡ true)
     × (meaning cleared_cues (Level (Group 1) 1) ≡ Some 255)
     × (meaning cleared_cues (Dimmer 1) ≡ Some (1, 255))
@@ -228,8 +229,8 @@ console_style_file : (text_fault desk_limits console_text ≡ None)
     × (is_record_there (Cue 9000) console_statements ≡ false)
     × (meaning console_statements (Level (Cue 1000) 1) ≡ Some 255)
     × (meaning console_statements (Level (Cue 1000) 2) ≡ Some 128)
-    × (meaning console_statements (Up 1000) ≡ Some (record { time = 3000; delay = 0 }))
-    × (meaning console_statements (Down 1000) ≡ None)
+    × (meaning console_statements (Time 1000 UpTime) ≡ Some (record { time = 3000; delay = 0 }))
+    × (meaning console_statements (Time 1000 DownTime) ≡ None)
     × (meaning console_statements (Dimmer 2) ≡ Some (2, 255))
     × (meaning console_statements (Dimmer 3) ≡ None)
 console_style_file = (refl, refl, refl, refl, refl, refl, refl, refl, refl, refl, refl)
@@ -256,8 +257,8 @@ twice_opened = statements_of desk_limits (text_of (
     ∷ codes "DOWN 4 1" ∷ codes "CHAN 7@HF" ∷ []
     ))
 
-last_rates : (meaning twice_opened (Up 1000) ≡ Some (record { time = 5000; delay = 0 }))
-    × (meaning twice_opened (Down 1000) ≡ Some (record { time = 4000; delay = 1000 }))
+last_rates : (meaning twice_opened (Time 1000 UpTime) ≡ Some (record { time = 5000; delay = 0 }))
+    × (meaning twice_opened (Time 1000 DownTime) ≡ Some (record { time = 4000; delay = 1000 }))
     × (meaning twice_opened (Level (Cue 1000) 1) ≡ Some 255)
     × (meaning twice_opened (Level (Cue 1000) 7) ≡ Some 15)
     × (meaning twice_opened (Level (Group 1) 1) ≡ None)
@@ -275,9 +276,9 @@ abbrev followed_no_more : List Statement
 followed_no_more = statements_of desk_limits
     (text_of (codes "CUE 1" ∷ codes "FOLLOWON 10" ∷ codes "CLEAR CUES" ∷ codes "CUE 1" ∷ []))
 
-last_follow : (meaning followed (Follow 1000) ≡ Some 90000)
-    × (meaning followed (Follow 2000) ≡ Some 3000)
-    × (meaning followed (Follow 3000) ≡ None)
-    × (meaning followed (Up 1000) ≡ None)
-    × (meaning followed_no_more (Follow 1000) ≡ None)
+last_follow : (meaning followed (Time 1000 FollowTime) ≡ Some 90000)
+    × (meaning followed (Time 2000 FollowTime) ≡ Some 3000)
+    × (meaning followed (Time 3000 FollowTime) ≡ None)
+    × (meaning followed (Time 1000 UpTime) ≡ None)
+    × (meaning followed_no_more (Time 1000 FollowTime) ≡ None)
 last_follow = (refl, refl, refl, refl, refl)

@@ -4,9 +4,9 @@ use Rattle.std.specs.Prelude.{ℕ, if◌then◌else◌, IsTrue, List, fold, Opti
 use Rattle.std.specs.FinMap as maps
 use Rattle.show_reader.specs.Terms.{PatchMap, Tables, LineFault, Record, Cue, Group, Sub, Cues}
 use Rattle.show_reader.specs.Terms.{Groups, Subs, Patch, Cleared, All, Only, Statement, Opens}
-use Rattle.show_reader.specs.Terms.{Levels, Rises, Falls, Follows, Patches, Clears, Faulty, Triple}
-use Rattle.show.specs.Builders.{with_cue, opened_in, with_levels, with_all_listed, with_up}
-use Rattle.show.specs.Builders.{with_down, with_follow, patched_with, can_open}
+use Rattle.show_reader.specs.Terms.{Levels, SetsTime, Patches, Clears, Faulty, Triple}
+use Rattle.show.specs.Builders.{with_cue, opened_in, with_levels, with_all_listed, with_time}
+use Rattle.show.specs.Builders.{patched_with, can_open}
 use Rattle.show_line.specs.declared.fault.LineFault.TheVariants.{Limit}
 use Rattle.show_reader.specs.Keys.{has_record}
 
@@ -40,9 +40,7 @@ without_tables (Only Patch) show = record show { patch = maps.empty }
 abbrev pub show_after : Statement → Tables → Tables
 show_after (Opens r) show = with_record show r
 show_after (Levels r pairs) show = with_pairs show r pairs
-show_after (Rises n rate) show = record show { cues = with_up show.cues n rate }
-show_after (Falls n rate) show = record show { cues = with_down show.cues n rate }
-show_after (Follows n time) show = record show { cues = with_follow show.cues n time }
+show_after (SetsTime n time) show = record show { cues = with_time show.cues n time }
 show_after (Patches triples) show = record show { patch = with_triples show.patch triples }
 show_after (Clears what) show = without_tables what show
 show_after _ show = show
@@ -56,7 +54,5 @@ refused_by show _ = None
 -- what a statement needs of a show: its record is there
 abbrev pub HasOwner : Tables → Statement → Type 0
 HasOwner show (Levels r pairs) = IsTrue (has_record show r)
-HasOwner show (Rises n rate) = IsTrue (has_record show (Cue n))
-HasOwner show (Falls n rate) = IsTrue (has_record show (Cue n))
-HasOwner show (Follows n time) = IsTrue (has_record show (Cue n))
+HasOwner show (SetsTime n time) = IsTrue (has_record show (Cue n))
 HasOwner show _ = Unit {0}

@@ -3,9 +3,9 @@
 use Rattle.std.specs.Prelude.{ℕ, ◌+◌, Bool, true, false, ◌==◌, ◌&&◌, if◌then◌else◌, List, [], ◌∷◌}
 use Rattle.std.specs.Prelude.{Option, Some, None, is_some}
 use Rattle.show_reader.specs.Terms.{Record, Cue, Group, Sub, Table, Cues, Groups, Subs, Patch}
-use Rattle.show_reader.specs.Terms.{Cleared, All, Only, Statement, Opens, Levels, Rises, Falls}
-use Rattle.show_reader.specs.Terms.{Follows, Patches, Clears, Skipped, Triple}
-use Rattle.show_reader.specs.Keys.{Key, There, Level, Up, Down, Follow, Dimmer, KeyAnswer, table_at}
+use Rattle.show_reader.specs.Terms.{Cleared, All, Only, Statement, Opens, Levels, SetsTime, Patches}
+use Rattle.show_reader.specs.Terms.{Clears, Skipped, Triple, time_named}
+use Rattle.show_reader.specs.Keys.{Key, There, Level, Time, Dimmer, KeyAnswer, table_at}
 
 -- ---- what is said of a key
 
@@ -14,6 +14,11 @@ pub data News (X : Type 0) : Type 0 where
   Is : X → News X
   Gone : News X
   Silent : News X
+
+-- a value, where there is one
+abbrev pub news_of : {X : Type 0} → Option X → News X
+news_of (Some x) = Is x
+news_of None = Silent
 
 -- what holds after the news, where this held before
 abbrev pub after : {X : Type 0} → News X → Option X → Option X
@@ -71,16 +76,13 @@ triple_says t _ = Silent
 -- what a statement says of a key:
 --   CUE, GROUP and SUB: their record is there;
 --   CHAN: the last pair of a channel wins, a 0 too;
---   UP and DOWN: the whole time and delay of their cue;
---   FOLLOWON: the follow-on time of its cue;
+--   UP, DOWN and FOLLOWON: the whole time of its name of their cue;
 --   PATCH: a dimmer has the channel of its last triple;
 --   CLEAR: what the file has said so far of its tables is gone
 abbrev pub says : Statement → (k : Key) → News (KeyAnswer k)
 says (Opens r) (There q) = if same_record q r then Is tt else Silent
 says (Levels r pairs) k = last_news (λ pair. pair_says r pair k) pairs
-says (Rises n rate) (Up m) = if m == n then Is rate else Silent
-says (Falls n rate) (Down m) = if m == n then Is rate else Silent
-says (Follows n time) (Follow m) = if m == n then Is time else Silent
+says (SetsTime n time) (Time m name) = if m == n then news_of (time_named time name) else Silent
 says (Patches triples) k = last_news (λ triple. triple_says triple k) triples
 says (Clears what) k = if empties what (table_at k) then Gone else Silent
 says _ _ = Silent

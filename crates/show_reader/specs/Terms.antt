@@ -1,6 +1,6 @@
 -- The words of the crates below that this crate's definitions and proofs speak in.
 pub use Rattle.show.specs.declared.cue.CueData.{CueData}
-pub use Rattle.show.specs.declared.rate.Rate.{Rate}
+pub use Rattle.show.specs.Cues.{TimeName, TimeOf, time_named, time_in}
 pub use Rattle.show.specs.Tables.{LevelMap, CueMap, MasterMap, PatchMap, Tables}
 pub use Rattle.show_line.specs.declared.fault.LineFault.{LineFault}
 pub use Rattle.show_line.specs.declared.statement.Record.{Record}
@@ -10,9 +10,8 @@ pub use Rattle.show_line.specs.declared.statement.Table.TheVariants.{Cues, Group
 pub use Rattle.show_line.specs.declared.statement.Cleared.{Cleared}
 pub use Rattle.show_line.specs.declared.statement.Cleared.TheVariants.{All, Only}
 pub use Rattle.show_line.specs.declared.statement.Statement.{Statement}
-pub use Rattle.show_line.specs.declared.statement.Statement.TheVariants.{Opens, Levels, Rises}
-pub use Rattle.show_line.specs.declared.statement.Statement.TheVariants.{Falls, Follows, Patches}
-pub use Rattle.show_line.specs.declared.statement.Statement.TheVariants.{Clears}
+pub use Rattle.show_line.specs.declared.statement.Statement.TheVariants.{Opens, Levels, SetsTime}
+pub use Rattle.show_line.specs.declared.statement.Statement.TheVariants.{Patches, Clears}
 pub use Rattle.show_line.specs.declared.statement.Statement.TheVariants.{Quiet, Skipped, Faulty}
 pub use Rattle.show_line.specs.declared.triples.Triple.{Triple}
 pub use Rattle.show_line.specs.Pairs.{Limits}

@@ -55,17 +55,9 @@ pub fn apply(draft: &mut Draft, statement: Statement<'_>) -> Result<(), Refusal>
     match statement {
         Statement::Opens(which) => open(draft, which)?,
         Statement::Levels(which, pairs) => draft.list(which, pairs)?,
-        Statement::Rises(n, rate) => {
+        Statement::SetsTime(n, time) => {
             draft.put_levels()?;
-            draft.show.set_up(n, rate);
-        }
-        Statement::Falls(n, rate) => {
-            draft.put_levels()?;
-            draft.show.set_down(n, rate);
-        }
-        Statement::Follows(n, time) => {
-            draft.put_levels()?;
-            draft.show.set_follow(n, time);
+            draft.show.set_time(n, time);
         }
         Statement::Patches(triples) => draft.patch(triples)?,
         Statement::Clears(what) => {

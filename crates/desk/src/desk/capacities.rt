@@ -1,7 +1,7 @@
 use super::Desk;
 use crate::command::Command;
 use fade::{Fader, PlainFader, StepFader};
-use show::{BuildFault, Rate, Show};
+use show::{BuildFault, CueTime, Rate, Show};
 use std::alloc::Global;
 use std::process::Abort;
 use std::test::Fail;
@@ -51,7 +51,7 @@ fn add_cue(show: &mut Show, n: u32) -> Result<(), BuildFault> {
         time: 1000,
         delay: 0,
     };
-    show.set_up(n, rate);
+    show.set_time(n, CueTime::Up(rate));
     Ok(())
 }
 

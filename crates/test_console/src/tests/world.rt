@@ -11,7 +11,7 @@ use rehearsal::{
 use sacn_packet::{SourceName, Unreadable};
 use sacn_receiver::Ignored;
 use sacn_source::{Identity, Offered};
-use show::{BuildFault, Rate, Show};
+use show::{BuildFault, CueTime, Rate, Show};
 use std::alloc::{AllocError, Global};
 use std::process::Abort;
 use std::test::Fail;
@@ -29,7 +29,7 @@ fn rise_over(rt: &impl Abort, show: &mut Show, n: u32, time: u16) {
         delay: 0,
     };
     assert!(rt; show.cue(n).is_some());
-    show.set_up(n, rate);
+    show.set_time(n, CueTime::Up(rate));
 }
 
 fn fall_over(rt: &impl Abort, show: &mut Show, n: u32, time: u16) {
@@ -38,7 +38,7 @@ fn fall_over(rt: &impl Abort, show: &mut Show, n: u32, time: u16) {
         delay: 0,
     };
     assert!(rt; show.cue(n).is_some());
-    show.set_down(n, rate);
+    show.set_time(n, CueTime::Down(rate));
 }
 
 fn add_two_cues(rt: &impl Abort, show: &mut Show) -> Result<(), BuildFault> {

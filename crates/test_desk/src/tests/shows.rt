@@ -1,4 +1,4 @@
-use show::{BuildFault, Rate, Show};
+use show::{BuildFault, CueTime, Rate, Show};
 use std::alloc::Global;
 
 // A part of a show.
@@ -41,15 +41,18 @@ fn add_group(show: &mut Show, n: u16, channel: u16, byte: u8) -> Result<(), Buil
     show.group_level(n, channel, byte)
 }
 
+fn rate(time: u16) -> Rate {
+    Rate {
+        time: u32::from(time),
+        delay: 0,
+    }
+}
+
 fn set_up(show: &mut Show, n: u32, time: u16) -> Result<(), BuildFault> {
     if show.cue(n).is_none() {
         return Err(BuildFault::Limit);
     }
-    let rate = Rate {
-        time: u32::from(time),
-        delay: 0,
-    };
-    show.set_up(n, rate);
+    show.set_time(n, CueTime::Up(rate(time)));
     Ok(())
 }
 
@@ -57,11 +60,7 @@ fn set_down(show: &mut Show, n: u32, time: u16) -> Result<(), BuildFault> {
     if show.cue(n).is_none() {
         return Err(BuildFault::Limit);
     }
-    let rate = Rate {
-        time: u32::from(time),
-        delay: 0,
-    };
-    show.set_down(n, rate);
+    show.set_time(n, CueTime::Down(rate(time)));
     Ok(())
 }
 
@@ -69,7 +68,7 @@ fn set_follow(show: &mut Show, n: u32, time: u16) -> Result<(), BuildFault> {
     if show.cue(n).is_none() {
         return Err(BuildFault::Limit);
     }
-    show.set_follow(n, u32::from(time));
+    show.set_time(n, CueTime::Follow(u32::from(time)));
     Ok(())
 }
 

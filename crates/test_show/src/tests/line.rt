@@ -1,4 +1,4 @@
-use show::Rate;
+use show::{CueTime, Rate};
 use show_line::{Keyword, LineFault, Reading, Record, Statement, Triple, read_line};
 use std::alloc::{AllocError, Global};
 use std::test::Fail;
@@ -187,8 +187,8 @@ fn pairs_appended(rt: HostRuntime) {
 // The rate of a cue that a line sets, and whether it is that of its rising channels.
 fn rate_of(line: &[u8]) -> Option<(bool, u32, Rate)> {
     match read_line(CUE, line)?.statement {
-        Statement::Rises(cue, rate) => Some((true, cue, rate)),
-        Statement::Falls(cue, rate) => Some((false, cue, rate)),
+        Statement::SetsTime(cue, CueTime::Up(rate)) => Some((true, cue, rate)),
+        Statement::SetsTime(cue, CueTime::Down(rate)) => Some((false, cue, rate)),
         _ => None,
     }
 }
