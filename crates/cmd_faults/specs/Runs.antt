@@ -1,4 +1,4 @@
--- The faults of parts of a run, as those of the run: want of memory is the run's own.
+-- The faults of parts of a run, as those of the run: that memory ran out is the run's own.
 use Rattle.show_reader.specs.declared.fault.ShowFault.{ShowFault}
 use Rattle.show_reader.specs.declared.fault.ShowFault.TheVariants as show_fault
 use Rattle.rehearsal_faults.specs.declared.fault.Fault.{Fault}

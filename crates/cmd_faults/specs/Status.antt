@@ -9,7 +9,7 @@ use Rattle.cmd_faults.specs.declared.fault.RunFault.{RunFault}
 use Rattle.cmd_faults.specs.declared.fault.RunFault.TheVariants as run
 
 -- a fault's status: 2 where a word is refused, 3 where the show is, 4 where an input line or a
--- script is, 5 where a device failed or packets were lost, 6 at want of memory
+-- script is, 5 where a device failed or packets were lost, 6 where memory ran out
 abbrev pub fault_status : RunFault → ℕ
 fault_status (run.Show show_fault.Memory) = 6
 fault_status (run.Show fault) = 3

@@ -40,7 +40,7 @@ use Rattle.cmd_rehearse.specs.Texts.{rehearsal_lines}
 
 -- ---- the show
 
--- want of memory is no fault of a text
+-- that memory ran out is no fault of a text
 no_line_fault : (n : ℕ) (f : LineFault) → fault_at n f ≡ show_fault.Memory → ⊥
 no_line_fault n line.Ident e = cc
 no_line_fault n f e = cc
@@ -68,7 +68,7 @@ no_memory_fault text =
     not_here (nat_lt longest_text (length text)) (first_fault (statements_of desk_limits text))
     (not_below (statements_of desk_limits text))
 
--- the fault that was found, where it is not want of memory
+-- the fault that was found, where memory did not run out
 found : (text : List ℕ) (fault : ShowFault) → (fault ≡ show_fault.Memory → ⊥)
     → (fault ≡ show_fault.Memory) ⊎ (text_fault desk_limits text ≡ Some fault)
     → text_fault desk_limits text ≡ Some fault
@@ -88,7 +88,7 @@ unread show script fault why sure long = found show fault (λ e. cc) why
 
 -- ---- the consoles and receivers
 
--- want of memory is no fault of theirs
+-- that memory ran out is no fault of theirs
 no_setup_memory : (shows : List Tables) (setups : List Setup) (universes : List ℕ)
     → setup_fault shows setups universes ≡ Some Memory → ⊥
 no_setup_memory shows setups universes =

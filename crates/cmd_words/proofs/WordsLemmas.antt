@@ -107,7 +107,7 @@ not_true : (b : Bool) → (b ≡ true → ⊥) → b ≡ false
 not_true true never = absurd (never refl)
 not_true false never = refl
 
--- an error that is not want of memory has one of the kinds
+-- an error other than that memory ran out has one of the kinds
 among : (error : Error) (words : List Text) → kind_of error ≢ OutOfMemory
     → HasKind (fault_of program words) error
     → IsAmong (kind_of error) (fault_of program words)

@@ -282,7 +282,7 @@ impl Show {
     /// # Errors
     ///
     /// `Limit` where a dimmer is not 1 to 8192 or a channel above 4096; `Memory` if an allocation
-    /// failed .
+    /// failed.
     pub fn set_patches(&mut self, entries: &[(u16, (u16, u8))]) -> Result<(), BuildFault>
         ensures set { OnOk result (self.new
             ≡ record self.old { patch = all_patched self.old.patch entries.now }) }

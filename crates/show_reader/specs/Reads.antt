@@ -39,7 +39,7 @@ IsDraft d = IfSome d.listing (λ r. IsTrue (has_record d.show r))
 abbrev pub IsSettled : Draft → Type 0
 IsSettled d = (d.levels.items ≡ []) × (d.patches.items ≡ [])
 
--- why a statement was not carried out: the fault that the show has with it; or want of memory,
+-- why a statement was not carried out: the fault that the show has with it; or memory ran out,
 -- where something is kept aside, or the show has no fault with it and it grows the show
 abbrev pub ExplainsRefusal : Draft → Statement → Refusal → Type 0
 ExplainsRefusal d s (refusal.Fault f) = refused_by (show_of_draft d) s ≡ Some f
@@ -65,7 +65,7 @@ pub record Reads (lines : List Words) (r : Reader) : Type 0 where
   pub number : r.lines ≡ length (statements_in lines)
   pub skipped : r.skipped ≡ count_by is_skipped (statements_in lines)
 
--- why reading ended at the line below these: its fault, or want of memory, where a statement so far
+-- why reading ended at the line below these: its fault, or memory ran out, where a statement so far
 -- grows the show
 abbrev pub EndsAt : List Words → Words → ShowFault → Type 0
 EndsAt lines l fault =
