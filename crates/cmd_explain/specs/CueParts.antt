@@ -9,7 +9,7 @@ use Rattle.std.specs.Option.{option_or}
 use Rattle.std.specs.FinMap as maps
 use Rattle.ascii_text.specs.Text.{words_of}
 use Rattle.show.specs.declared.cue.CueTime.{CueTime}
-use Rattle.show.specs.declared.cue.CueTime.TheVariants.{Up, Down, Follow}
+use Rattle.show.specs.declared.cue.CueTime.TheVariants.{Up, Down}
 use Rattle.show.specs.declared.rate.Rate.{Rate}
 use Rattle.show.specs.Tables.{Tables}
 use Rattle.show_line.specs.declared.statement.Record.TheVariants.{Cue}
@@ -84,11 +84,11 @@ abbrev pub change_last : (CuePart → CuePart) → List CuePart → List CuePart
 change_last change [] = []
 change_last change (p ∷ parts) = change p ∷ parts
 
--- a part has no follow-on time of its own
+-- a part has no other time of its own
 abbrev pub times_with : CueTime → Times → Times
 times_with (Up rate) times = record { up = Some rate; down = times.down }
 times_with (Down rate) times = record { up = times.up; down = Some rate }
-times_with (Follow time) times = times
+times_with _ times = times
 
 abbrev pub part_with_time : CueTime → CuePart → CuePart
 part_with_time time p = record p { times = times_with time p.times }

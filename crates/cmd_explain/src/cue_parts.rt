@@ -50,14 +50,14 @@ impl Times {
         }
     }
 
-    /// Sets one of them. A follow-on time is none of a part.
+    /// Sets one of them. A part has no other time.
     fn set(&mut self, time: CueTime)
         ensures { self.new ≡ times_with time self.old }
     {
         match time {
             CueTime::Up(rate) => self.up = Some(rate),
             CueTime::Down(rate) => self.down = Some(rate),
-            CueTime::Follow(_) => {}
+            _ => {}
         }
     }
 

@@ -1,6 +1,7 @@
 -- A time that is set is the cue's time of its name, and its other times stay as they are.
 use Rattle.show.proofs.Terms.{◌≡◌, refl, arith, None, option_or, CueData, CueTime, TimeName}
-use Rattle.show.proofs.Terms.{time_named, time_in, blank, cue_with_time, IsTimeInRange, HasTimes}
+use Rattle.show.proofs.Terms.{time_named, time_in, LevelMap, blank, cue_with_time, IsTimeInRange}
+use Rattle.show.proofs.Terms.{HasTimes}
 use Rattle.show.specs.declared.cue.CueTime.TheVariants.{Up, Down, Follow}
 use Rattle.show.specs.Cues.{UpTime, DownTime, FollowTime}
 
@@ -29,6 +30,11 @@ same_cue a b levels times =
 -- a cue keeps its times in their ranges
 pub no_times : HasTimes blank
 no_times = record { up_in = tt; down_in = tt; follow_in = tt }
+
+pub times_stay : (cue : CueData) (levels : LevelMap) → HasTimes cue
+    → HasTimes (record cue { levels = levels })
+times_stay cue levels has =
+    record { up_in = has.up_in; down_in = has.down_in; follow_in = has.follow_in }
 
 pub times_kept : (cue : CueData) (time : CueTime) → HasTimes cue → IsTimeInRange time
     → HasTimes (cue_with_time cue time)

@@ -1,5 +1,6 @@
 use Rattle.show.proofs.Terms.{with_bytes, show_view}
 use Rattle.show.proofs.Changes.{changed_levels}
+use Rattle.show.proofs.Cues.{times_stay}
 use Rattle.show.proofs.InRange.{changed_cue_in_range}
 use Rattle.show.proofs.show.Show.cue_levels.Goals as goal
 
@@ -8,4 +9,4 @@ invariant_of-self-2 c =
     rw (c.in_ok-set_levels.ensures.set, changed_levels c.self.inside.cues c.args.n c.args.pairs.now)
     (changed_cue_in_range (show_view c.self.inside) c.self.invariant c.args.n
     (λ cue. record cue { levels = with_bytes cue.levels c.args.pairs.now })
-    (λ cue has. record { up_in = has.up_in; down_in = has.down_in; follow_in = has.follow_in }))
+    (λ cue has. times_stay cue _ has))
