@@ -15,6 +15,7 @@ from test_record_writer import NEVER, WriterTest
 from tooling import stand_still
 
 BEFORE = b"what stood there\n"
+STILL = rb"outputs: (\d+) bytes are still with their writers\n"
 WRONG = b"line refused: jump: no such command; help lists the commands\n"
 
 
@@ -215,14 +216,7 @@ class OutputWriter(WriterTest):
                 writer = self.writer(night, self.out)
                 stand_still(writer)
                 self.light(night, b"sub 1 0\n", 0)
-                before = self.out.stat().st_size
-                self.assertEnds(night)
-                line = night.stderr.readline()
-                left = re.fullmatch(rb"outputs: (\d+) bytes are still with their writers\n", line)
-                self.assertIsNotNone(left, line)
-                os.kill(writer, signal.SIGCONT)
-                self.ends(writer)
-                self.assertEqual(before + int(left[1]), self.out.stat().st_size)
+                self.assertOwes(night, writer, self.out, STILL)
                 printed = self.out.read_bytes()
                 self.assertEqual(stood, printed[: len(stood)])
                 self.assertEqual(["ok"] * 4, without_moments(printed[len(stood) :]))

@@ -15,6 +15,7 @@ from test_outputs import OutputsTest
 from tooling import stand_still
 
 NEVER = 30
+STILL = rb"record: (\d+) bytes are still with its writer\n"
 
 
 def commands(record):
@@ -66,6 +67,18 @@ class WriterTest(OutputsTest):
                 return
             time.sleep(0.01)
         self.fail("the writer does not end")
+
+    def assertOwes(self, night, writer, file, line):
+        """The program ends while the writer of a file stands still, and a line of standard error
+        says how many bytes that writer has still. It then writes as many."""
+        before = file.stat().st_size
+        self.assertEnds(night)
+        message = night.stderr.readline()
+        left = re.fullmatch(line, message)
+        self.assertIsNotNone(left, message)
+        os.kill(writer, signal.SIGCONT)
+        self.ends(writer)
+        self.assertEqual(before + int(left[1]), file.stat().st_size)
 
 
 class RecordWriter(WriterTest):
@@ -155,13 +168,7 @@ class RecordWriter(WriterTest):
         writer = self.writer(night)
         stand_still(writer)
         self.light(night, b"sub 1 0\n", 0)
-        before = self.record.stat().st_size
-        self.assertEnds(night)
-        line = night.stderr.readline()
-        left = re.fullmatch(rb"record: (\d+) bytes are still with its writer\n", line)
-        os.kill(writer, signal.SIGCONT)
-        self.ends(writer)
-        self.assertEqual(before + int(left[1]), self.record.stat().st_size)
+        self.assertOwes(night, writer, self.record, STILL)
         self.assertEqual(b"end", commands(self.record)[-1])
 
     def test_stalled_to_the_end_of_another(self):
@@ -177,14 +184,7 @@ class RecordWriter(WriterTest):
         writer = self.writer(night)
         stand_still(writer)
         self.light(night, b"sub 1 0\n", 0)
-        before = self.record.stat().st_size
-        self.assertEnds(night)
-        line = night.stderr.readline()
-        left = re.fullmatch(rb"record: (\d+) bytes are still with its writer\n", line)
-        self.assertIsNotNone(left, line)
-        os.kill(writer, signal.SIGCONT)
-        self.ends(writer)
-        self.assertEqual(before + int(left[1]), self.record.stat().st_size)
+        self.assertOwes(night, writer, self.record, STILL)
 
     def test_refused(self):
         """A run that is refused leaves no file, and changes none."""

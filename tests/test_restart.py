@@ -274,8 +274,8 @@ class KillsByTheScript(ByTheScript, Kills):
         except ProcessLookupError:
             pass
 
-    def test_writer_that_stalls(self):
-        """A night is not taken up as long as its record is still written, and then whole."""
+    def stalled(self):
+        """A night whose record waits for its writer, which stands still."""
         night = self.night()
         night.begin()
         night.light(2)
@@ -284,6 +284,11 @@ class KillsByTheScript(ByTheScript, Kills):
         self.addCleanup(self.go_on, writer)
         night.type(b"go\n")
         night.light(20)
+        return night, writer
+
+    def test_writer_that_stalls(self):
+        """A night is not taken up as long as its record is still written, and then whole."""
+        night, writer = self.stalled()
         before = night.record.read_bytes()
         night.kill(stalls=True)
         night.ear.settle()
@@ -299,14 +304,7 @@ class KillsByTheScript(ByTheScript, Kills):
 
     def test_writer_that_ends_soon(self):
         """A night that is taken up while its record is still written begins when that is whole."""
-        night = self.night()
-        night.begin()
-        night.light(2)
-        writer = self.writer(night)
-        stand_still(writer)
-        self.addCleanup(self.go_on, writer)
-        night.type(b"go\n")
-        night.light(20)
+        night, writer = self.stalled()
         night.kill(stalls=True)
         night.begin()
         night.reads(night.processes[-1])
