@@ -1,6 +1,5 @@
 -- The lines of packets, one after the other.
-use Rattle.std.proofs.Common.{arith, ◌≡◌, ◌∙◌, ap, ℕ, ◌<◌, ◌+◌, Option, Some, None}
-use Rattle.std.proofs.Common.{IfSome}
+use Rattle.std.proofs.Common.{arith, ◌≡◌, ◌∙◌, ap, ℕ, ◌<◌, ◌+◌}
 use Rattle.std.proofs.Common.{List, [], ◌∷◌, ◌++◌, All, take, length, get_or}
 use Rattle.std.proofs.Common.{append_assoc}
 use Rattle.std.specs.List.{range_with_len, AllZip}
@@ -9,7 +8,6 @@ use Rattle.std.proofs.lemmas.List.{take_more, flat_map_more}
 use Rattle.std.proofs.lemmas.List.FromFn.{get_or-range_with_len, length-range_with_len}
 use Rattle.hex.specs.Hex.{encode_lower}
 use Rattle.sacn_packet.specs.Wire.{IsData}
-use Rattle.show.specs.declared.cue.CueData.{CueData}
 use Rattle.show.specs.Tables.{LevelMap, PatchMap}
 use Rattle.show.specs.Readers.{patch_ordinals, has_dimmer_in, look_frame}
 use Rattle.cmd_show.specs.Texts.{look_fields, hex_line, IsLookPacket, IsLinesOf}
@@ -48,16 +46,15 @@ one_more_line levels patch cid ordinals text packet k so_far is =
           ∙ flat_map_more hex_line [] so_far.packets packet;
     }
 
--- the line of the next of some universes, with the levels of a cue that may be there
-pub line_added : (o : Option CueData) (patch : PatchMap) (cid ordinals : List ℕ) (i : ℕ)
+-- the line of the next of some universes, with the levels of a cue
+pub line_added : (levels : LevelMap) (patch : PatchMap) (cid ordinals : List ℕ) (i : ℕ)
     (text packet slots longer : List ℕ)
     → i < length ordinals
-    → IfSome o (λ look. IsLinesOf look.levels patch cid (take i ordinals) text)
+    → IsLinesOf levels patch cid (take i ordinals) text
     → IsData packet (look_fields cid (get_or ordinals i 0)) slots
-    → IfSome o (λ look. slots ≡ look_frame look.levels patch (get_or ordinals i 0))
+    → slots ≡ look_frame levels patch (get_or ordinals i 0)
     → longer ≡ (text ++ encode_lower packet) ++ 10 ∷ []
-    → IfSome o (λ look. IsLinesOf look.levels patch cid (take (i + 1) ordinals) longer)
-line_added None patch cid ordinals i text packet slots longer within so_far is full added = tt
-line_added (Some look) patch cid ordinals i text packet slots longer within so_far is full added =
+    → IsLinesOf levels patch cid (take (i + 1) ordinals) longer
+line_added levels patch cid ordinals i text packet slots longer within so_far is full added =
     rw (added, take_more ordinals i 0 within)
-    (one_more_line look.levels patch cid (take i ordinals) text packet _ so_far (rw full at is))
+    (one_more_line levels patch cid (take i ordinals) text packet _ so_far (rw full at is))

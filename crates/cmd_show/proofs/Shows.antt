@@ -1,8 +1,8 @@
 -- A text means one show alone.
-use Rattle.std.proofs.Common.{arith, ◌≡◌, ◌∙◌, sym, ap, ℕ, Bool, true, not, List}
-use Rattle.std.proofs.Common.{Option, is_some, IfSome, IsSomeAnd}
+use Rattle.std.proofs.Common.{◌≡◌, ◌∙◌, sym, ℕ, Bool, List, Some, is_some, IsSomeAnd}
 use Rattle.std.proofs.Common.{Result, Ok, Err, IfErr, IsErrAnd}
 use Rattle.std.specs.FinMap as maps
+use Rattle.show.specs.declared.cue.CueData.{CueData}
 use Rattle.show.specs.Tables.{LevelMap, PatchMap, Tables}
 use Rattle.show_line.specs.Said.{desk_limits}
 use Rattle.show_line.specs.declared.statement.Record.TheVariants.{Cue}
@@ -27,24 +27,17 @@ check_of show written lines skipped s is read skips line =
     of_its_show show (λ t. written ≡ check_text (lines_read desk_limits show)
     (lines_skipped desk_limits show) t) s is (rw (read, skips) at line)
 
--- a value that is there, of which something is known
-pub some_and : {X : Type 0} (o : Option X) (P : X → Type 0) → is_some o ≡ true → IfSome o P
-    → IsSomeAnd o P
-some_and o P there p = grind (arith, there, p)
-
 -- what was written of a cue that is there is so by every show of the text
 pub of_cue : (show : List ℕ) (cue : ℕ) (IsText : List ℕ → LevelMap → PatchMap → Type 0)
-    (text written : List ℕ) (s : Tables) → IsShowOf (statements_of desk_limits show) s
-    → is_some (maps.get s.cues cue) ≡ true → written ≡ text
-    → IfSome (maps.get s.cues cue) (λ look. IsText text look.levels s.patch)
+    (text written : List ℕ) (s : Tables) (look : CueData)
+    → IsShowOf (statements_of desk_limits show) s
+    → maps.get s.cues cue ≡ Some look → written ≡ text → IsText text look.levels s.patch
     → OfItsShow show (λ t.
     IsSomeAnd (maps.get t.cues cue) (λ look. IsText written look.levels t.patch))
-of_cue show cue IsText text written s is there same lines =
+of_cue show cue IsText text written s look is found same lines =
     let P : Tables → Type 0 = λ t.
     IsSomeAnd (maps.get t.cues cue) (λ look. IsText written look.levels t.patch) in
-    let found = some_and (maps.get s.cues cue) (λ look. IsText text look.levels s.patch) there
-    lines in
-    of_its_show show P s is (rw same found)
+    of_its_show show P s is (rw (same, found) lines)
 
 -- a cue is there where the show has it
 pub cue_is_there : (show : List ℕ) (s : Tables) (cue : ℕ) (b : Bool)
@@ -52,11 +45,6 @@ pub cue_is_there : (show : List ℕ) (s : Tables) (cue : ℕ) (b : Bool)
     → is_record_there (Cue cue) (statements_of desk_limits show) ≡ b
 cue_is_there show s cue b is found =
     sym (record_there (statements_of desk_limits show) s (Cue cue) is) ∙ found
-
--- whether a cue was found, by the test that it was not
-pub was_found : {X : Type 0} (o found : Option X) (is_none b : Bool) → found ≡ o
-    → is_some found ≡ not is_none → is_none ≡ b → is_some o ≡ not b
-was_found o found is_none b is none test = ap is_some (sym is) ∙ none ∙ ap not test
 
 -- what holds of a failed output holds of the answer
 pub output_failed : {X : Type 0} (r : Result X RunFault) (P : RunFault → Type 0)

@@ -1,5 +1,4 @@
-ghost use Rattle.std.specs.Prelude.{◌≡◌, ◌<◌, ◌++◌, All, IfOk, IfSome, OnOk, IfErr, IsTrue, length};
-ghost use Rattle.std.specs.FinMap as maps;
+ghost use Rattle.std.specs.Prelude.{◌≡◌, ◌<◌, ◌++◌, All, IfOk, OnOk, IfErr, length};
 ghost use Rattle.show_reader.specs.declared.fault.ShowFault.TheVariants as show_fault;
 ghost use Rattle.show_reader.specs.Reading.{longest_text};
 ghost use Rattle.cmd_show.specs.Prints.{PrintsTo};
@@ -12,7 +11,7 @@ use devices::Output;
 use itoa::Buffer;
 use patch::has_numbers;
 use sacn_receiver::slots_line;
-use show::{Frame, Show};
+use show::{Cue, Frame, Show};
 use show_reader::read_show;
 use std::alloc::{AllocError, Global};
 
@@ -43,41 +42,44 @@ pub fn slots<W: Output>(
         (RunFault.Show show_fault.TooLong) }
 {
     let loaded = read_show(alloc, show)?;
-    if loaded.show.cue(cue).is_none() {
+    let Some(look) = loaded.show.cue(cue) else {
         return Err(RunFault::NoCue);
-    }
+    };
     if !has_numbers(&loaded.show, base) {
         return Err(RunFault::Base);
     }
-    let text = slots_text(alloc, &loaded.show, cue, base)?;
+    let text = slots_text(alloc, &loaded.show, &look, base)?;
     out.write(text.as_slice())?;
     Ok(())
 }
 
-fn slots_text(alloc: Global, show: &Show, cue: u32, base: u16) -> Result<Vec<u8>, AllocError>
-    requires { IsTrue (maps.contains_key show.now.cues cue) }
-    ensures { IfOk result (λ text. IfSome (maps.get show.now.cues cue) (λ look.
-        text.items ≡ slots_text look.levels show.now.patch base)) }
+fn slots_text(
+    alloc: Global,
+    show: &Show,
+    look: &Cue<'_>,
+    base: u16,
+) -> Result<Vec<u8>, AllocError>
+    ensures { IfOk result (λ text.
+        text.items ≡ slots_text look.now.levels show.now.patch base) }
 {
-    universes_text(alloc, show, cue, base, show.universes().as_slice())
+    universes_text(alloc, show, look, base, show.universes().as_slice())
 }
 
 fn universes_text(
     alloc: Global,
     show: &Show,
-    cue: u32,
+    look: &Cue<'_>,
     base: u16,
     ordinals: &[u16],
 ) -> Result<Vec<u8>, AllocError>
-    requires there { IsTrue (maps.contains_key show.now.cues cue) }
-    requires range { All (λ ordinal. ordinal < 16) ordinals.now }
-    ensures { IfOk result (λ text. IfSome (maps.get show.now.cues cue) (λ look.
-        text.items ≡ flat_map (ordinal_lines look.levels show.now.patch base) ordinals.now)) }
+    requires { All (λ ordinal. ordinal < 16) ordinals.now }
+    ensures { IfOk result (λ text.
+        text.items ≡ flat_map (ordinal_lines look.now.levels show.now.patch base) ordinals.now) }
 {
     let mut text = Vec::new(alloc);
     for ordinal in ordinals {
         let universe = u32::from(base) + u32::from(*ordinal);
-        push_universe(&mut text, universe, &show.look_slots(cue, *ordinal))?;
+        push_universe(&mut text, universe, &show.look_slots(look, *ordinal))?;
     }
     Ok(text)
 }

@@ -54,10 +54,10 @@ pub fn look<W: Output>(
         (is_record_there (Cue cue) (statements_of desk_limits show.now) ≡ true) }
 {
     let loaded = read_show(alloc, show)?;
-    if loaded.show.cue(cue).is_none() {
+    let Some(look) = loaded.show.cue(cue) else {
         return Err(RunFault::NoCue);
-    }
-    let text = look_text(alloc, &loaded.show, cue, cid)?;
+    };
+    let text = look_text(alloc, &loaded.show, &look, cid)?;
     out.write(text.as_slice())?;
     Ok(())
 }

@@ -1,11 +1,10 @@
-ghost use Rattle.std.specs.Prelude.{◌≡◌, ◌<◌, All, IfOk, IfSome, IsTrue, codes, string_bytes};
-ghost use Rattle.std.specs.FinMap as maps;
+ghost use Rattle.std.specs.Prelude.{◌≡◌, ◌<◌, All, IfOk, codes, string_bytes};
 ghost use Rattle.sacn_packet.specs.Wire.{IsData};
 ghost use Rattle.cmd_show.specs.Texts.{check_text, counts_line, look_fields, IsLinesOf};
 ghost use Rattle.cmd_show.specs.Texts.{IsLookText};
 
 use sacn_packet::{Header, SourceName, encode};
-use show::{Counts, Frame, Show};
+use show::{Counts, Cue, Frame, Show};
 use show_reader::Loaded;
 use std::alloc::{AllocError, Global};
 
@@ -42,31 +41,29 @@ fn counts_line(
 pub(crate) fn look_text(
     alloc: Global,
     show: &Show,
-    cue: u32,
+    look: &Cue<'_>,
     cid: [u8; 16],
 ) -> Result<Vec<u8>, AllocError>
-    requires { IsTrue (maps.contains_key show.now.cues cue) }
-    ensures { IfOk result (λ text. IfSome (maps.get show.now.cues cue) (λ look.
-        IsLookText look.levels show.now.patch cid text.items)) }
+    ensures { IfOk result (λ text.
+        IsLookText look.now.levels show.now.patch cid text.items) }
 {
-    look_lines(alloc, show, cue, cid, show.universes().as_slice())
+    look_lines(alloc, show, look, cid, show.universes().as_slice())
 }
 
 fn look_lines(
     alloc: Global,
     show: &Show,
-    cue: u32,
+    look: &Cue<'_>,
     cid: [u8; 16],
     ordinals: &[u16],
 ) -> Result<Vec<u8>, AllocError>
-    requires there { IsTrue (maps.contains_key show.now.cues cue) }
-    requires range { All (λ ordinal. ordinal < 16) ordinals.now }
-    ensures { IfOk result (λ text. IfSome (maps.get show.now.cues cue) (λ look.
-        IsLinesOf look.levels show.now.patch cid ordinals.now text.items)) }
+    requires { All (λ ordinal. ordinal < 16) ordinals.now }
+    ensures { IfOk result (λ text.
+        IsLinesOf look.now.levels show.now.patch cid ordinals.now text.items) }
 {
     let mut text = Vec::new(alloc);
     for ordinal in ordinals {
-        let packet = look_packet(cid, *ordinal, &show.look_slots(cue, *ordinal));
+        let packet = look_packet(cid, *ordinal, &show.look_slots(look, *ordinal));
         let digits = hex::encode(alloc, packet)?;
         text.extend_from_slice(digits.as_bytes())?;
         text.push(b'\n')?;

@@ -12,7 +12,9 @@
 //!     show.cue_level(1500, 1, 128)?;
 //! }
 //! show.set_patch(1, 1, 255)?;
-//! // show.look_slots(1500, 0) has 128 in its first slot: the cue at full.
+//! if let Some(cue) = show.cue(1500) {
+//!     // show.look_slots(&cue, 0) has 128 in its first slot: the cue at full.
+//! }
 //! ```
 #![tactic(auto)]
 

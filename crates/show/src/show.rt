@@ -426,28 +426,24 @@ impl Show {
         found
     }
 
-    /// The 512 slots of the universe of an ordinal below 16, with the cue alone at full and the
-    /// grand master at 255.
-    pub fn look_slots(&self, cue: u32, ordinal: u16) -> Frame
-        requires there { IsTrue (map.contains_key self.now.cues cue) }
-        requires range { ordinal < 16 }
-        ensures { IfSome (map.get self.now.cues cue)
-            (λ look. result ≡ look_frame look.levels self.now.patch ordinal) }
+    /// The 512 slots of the universe of an ordinal below 16, with a cue alone at full and the grand
+    /// master at 255.
+    pub fn look_slots(&self, cue: &Cue<'_>, ordinal: u16) -> Frame
+        requires { ordinal < 16 }
+        ensures { result ≡ look_frame cue.now.levels self.now.patch ordinal }
     {
         let mut slots = [0; 512];
-        if let Some(look) = self.cue(cue) {
-            for place in 0..SLOTS {
-                slots[usize::from(place)] = self.look_slot(&look, SLOTS * ordinal + 1 + place);
-            }
+        for place in 0..SLOTS {
+            slots[usize::from(place)] = self.look_slot(cue, SLOTS * ordinal + 1 + place);
         }
         slots
     }
 
-    fn look_slot(&self, look: &Cue<'_>, dimmer: u16) -> u8
-        ensures { result ≡ look_slot look.now.levels self.now.patch dimmer }
+    fn look_slot(&self, cue: &Cue<'_>, dimmer: u16) -> u8
+        ensures { result ≡ look_slot cue.now.levels self.now.patch dimmer }
     {
         match self.patched(dimmer) {
-            Some((channel, byte)) => slot(255 * u32::from(look.level(channel)), 255, byte),
+            Some((channel, byte)) => slot(255 * u32::from(cue.level(channel)), 255, byte),
             None => 0,
         }
     }

@@ -41,10 +41,10 @@ fn light_group(
 
 // The slot at a place of a universe where cue 1 is up.
 fn slot(show: &Show, ordinal: u16, place: usize) -> Option<u8> {
-    if ordinal >= 16 || show.cue(1000).is_none() {
+    if ordinal >= 16 {
         return None;
     }
-    let slots = show.look_slots(1000, ordinal);
+    let slots = show.look_slots(&show.cue(1000)?, ordinal);
     slots.get(place).copied()
 }
 

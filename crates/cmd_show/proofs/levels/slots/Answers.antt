@@ -1,10 +1,10 @@
-use Rattle.std.proofs.Common.{◌≡◌, ◌∙◌, sym, rules}
+use Rattle.std.proofs.Common.{◌≡◌, ◌∙◌, sym, ap, is_some, rules}
 use Rattle.std.specs.Prelude.{IsTrue, IsFalse}
 use Rattle.patch.specs.Frame.{is_base}
 use Rattle.show.specs.Tables.{Tables}
 use Rattle.show_reader.proofs.OneShow.{of_its_show}
 use Rattle.cmd_show.specs.Slots.{slots_text, SlotsFails}
-use Rattle.cmd_show.proofs.Shows.{cue_is_there, of_cue, output_failed, was_found}
+use Rattle.cmd_show.proofs.Shows.{cue_is_there, of_cue, output_failed}
 use Rattle.cmd_show.proofs.levels.slots.Goals as goal
 
 pub returns-then-not-has_numbers-clause-fault : goal.returns-then-not-has_numbers-clause-fault
@@ -15,7 +15,7 @@ returns-then-not-has_numbers-clause-fault g c =
       (
         c.in_ok-loaded.ensures.faultless,
         cue_is_there c.args.show.now show c.args.cue _ c.in_ok-loaded.ensures.show
-            (was_found _ _ _ _ c.cue.ensures c.is_none.ensures c.if-is_none.false),
+            (ap is_some (sym c.cue.ensures ∙ c.in-Some.is)),
       ),
       of_its_show c.args.show.now (λ (s : Tables). IsFalse (is_base s.patch c.args.base)) show
           c.in_ok-loaded.ensures.show lacks,
@@ -32,7 +32,7 @@ returns-in_err-write-clause-fault g c =
       (
         c.in_ok-loaded.ensures.faultless,
         cue_is_there c.args.show.now show c.args.cue _ c.in_ok-loaded.ensures.show
-            (was_found _ _ _ _ c.cue.ensures c.is_none.ensures c.if-is_none.false),
+            (ap is_some (sym c.cue.ensures ∙ c.in-Some.is)),
       ),
       of_its_show c.args.show.now (λ (s : Tables). IsTrue (is_base s.patch c.args.base)) show
           c.in_ok-loaded.ensures.show numbers,
@@ -44,8 +44,8 @@ returns-clause-prints g c = record {
   text = λ tells. (
     c.as_slice.result.now,
     of_cue c.args.show.now c.args.cue (λ t l patch. t ≡ slots_text l patch c.args.base) _ _
-        c.in_ok-loaded.loaded.show c.in_ok-loaded.ensures.show
-        (was_found _ _ _ _ c.cue.ensures c.is_none.ensures c.if-is_none.false)
+        c.in_ok-loaded.loaded.show c.in-Some.look c.in_ok-loaded.ensures.show
+        (sym c.cue.ensures ∙ c.in-Some.is)
         c.as_slice.ensures.value c.in_ok-text.ensures,
     c.in_ok-write.ensures.ok tells,
   );

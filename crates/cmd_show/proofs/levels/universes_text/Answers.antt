@@ -1,5 +1,4 @@
 use Rattle.std.proofs.Common.{◌≡◌, ◌+◌, ◌++◌, ap, ◌∙◌, get_or}
-use Rattle.std.specs.FinMap as maps
 use Rattle.cmd_show.specs.Slots.{universe_lines}
 use Rattle.cmd_show.proofs.Universes.{universe_added}
 use Rattle.cmd_show.proofs.levels.universes_text.Goals as goal
@@ -13,7 +12,7 @@ loop-ordinal-preserved c =
     cc (c.from.ensures, c.from-in-loop-ordinal.ensures) in
     let added : c.push_universe.new.text.items ≡ text ++ universe_lines (c.args.base + k) slots =
     c.in_ok-push_universe.ensures ∙ ap (λ n. text ++ universe_lines n slots) numbered in
-    universe_added (maps.get c.args.show.now.cues c.args.cue) c.args.show.now.patch c.args.base
+    universe_added c.args.look.now.levels c.args.show.now.patch c.args.base
     c.args.ordinals.now c.loop-ordinal.ordinal-index c.loop-ordinal.text.items c.look_slots.result
     c.push_universe.new.text.items c.loop-ordinal-test.true c.loop-ordinal.invariant
     c.look_slots.ensures added

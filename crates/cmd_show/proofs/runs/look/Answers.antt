@@ -1,20 +1,8 @@
-use Rattle.std.proofs.Common.{rules}
+use Rattle.std.proofs.Common.{◌∙◌, sym, ap, is_some, rules}
 use Rattle.cmd_show.specs.Texts.{IsLookText}
 use Rattle.cmd_show.specs.Faults.{LookFails}
-use Rattle.cmd_show.proofs.Shows.{cue_is_there, of_cue, output_failed, was_found}
+use Rattle.cmd_show.proofs.Shows.{cue_is_there, of_cue, output_failed}
 use Rattle.cmd_show.proofs.runs.look.Goals as goal
-
-pub returns-then-is_none-clause-reads : goal.returns-then-is_none-clause-reads
-returns-then-is_none-clause-reads g c = record {
-  faultless = search rules;
-  fault = (
-    c.in_ok-loaded.ensures.faultless,
-    cue_is_there c.args.show.now c.in_ok-loaded.loaded.show c.args.cue _
-        c.in_ok-loaded.ensures.show
-        (was_found _ _ _ _ c.cue.ensures c.is_none.ensures c.if-is_none.true),
-  );
-  too_long = search rules;
-}
 
 pub returns-in_err-write-clause-reads : goal.returns-in_err-write-clause-reads
 returns-in_err-write-clause-reads g c = record {
@@ -24,7 +12,7 @@ returns-in_err-write-clause-reads g c = record {
         c.in_ok-loaded.ensures.faultless,
         cue_is_there c.args.show.now c.in_ok-loaded.loaded.show c.args.cue _
             c.in_ok-loaded.ensures.show
-            (was_found _ _ _ _ c.cue.ensures c.is_none.ensures c.if-is_none.false),
+            (ap is_some (sym c.cue.ensures ∙ c.in-Some.is)),
       );
   too_long = search rules;
 }
@@ -35,8 +23,8 @@ returns-clause-prints g c = record {
   text = λ tells. (
     c.as_slice.result.now,
     of_cue c.args.show.now c.args.cue (λ t levels patch. IsLookText levels patch c.args.cid t) _ _
-        c.in_ok-loaded.loaded.show c.in_ok-loaded.ensures.show
-        (was_found _ _ _ _ c.cue.ensures c.is_none.ensures c.if-is_none.false)
+        c.in_ok-loaded.loaded.show c.in-Some.look c.in_ok-loaded.ensures.show
+        (sym c.cue.ensures ∙ c.in-Some.is)
         c.as_slice.ensures.value c.in_ok-text.ensures,
     c.in_ok-write.ensures.ok tells,
   );
@@ -45,4 +33,4 @@ returns-clause-prints g c = record {
 pub returns-clause-there : goal.returns-clause-there
 returns-clause-there g c = cue_is_there c.args.show.now c.in_ok-loaded.loaded.show c.args.cue _
     c.in_ok-loaded.ensures.show
-    (was_found _ _ _ _ c.cue.ensures c.is_none.ensures c.if-is_none.false)
+    (ap is_some (sym c.cue.ensures ∙ c.in-Some.is))

@@ -1,5 +1,4 @@
 use Rattle.std.proofs.Common.{◌≡◌, ◌++◌, ◌∷◌, []}
-use Rattle.std.specs.FinMap as maps
 use Rattle.hex.specs.Hex.{encode_lower}
 use Rattle.cmd_show.proofs.Packets.{line_added}
 use Rattle.cmd_show.proofs.texts.look_lines.Goals as goal
@@ -15,7 +14,7 @@ loop-ordinal-preserved c =
       c.as_bytes.ensures.value,
       c.in_ok-digits.ensures,
     ) in
-    line_added (maps.get c.args.show.now.cues c.args.cue) c.args.show.now.patch c.args.cid
+    line_added c.args.look.now.levels c.args.show.now.patch c.args.cid
     c.args.ordinals.now c.loop-ordinal.ordinal-index text packet c.look_slots.result longer
     c.loop-ordinal-test.true c.loop-ordinal.invariant c.look_packet-packet.ensures
     c.look_slots.ensures added

@@ -4,8 +4,8 @@ use Rattle.show.specs.Readers.{patch_ordinals}
 use Rattle.cmd_show.proofs.Packets.{universes_in_range}
 use Rattle.cmd_show.proofs.texts.look_text.Goals as goal
 
-pub look_lines-requires-clause-range : goal.look_lines-requires-clause-range
-look_lines-requires-clause-range c =
+pub look_lines-requires : goal.look_lines-requires
+look_lines-requires c =
     let patch = c.args.show.now.patch in
     All-same (λ k. k < 16) c.as_slice.result.now (patch_ordinals patch)
     (c.as_slice.ensures.value ∙ c.universes.ensures) (universes_in_range patch)

@@ -12,7 +12,7 @@ frame_is f a n xs size each =
 
 pub loop-place-preserved : goal.loop-place-preserved
 loop-place-preserved c =
-    let f : ℕ → ℕ = λ (i : ℕ). look_slot c.in-Some.look.levels c.args.self.now.patch
+    let f : ℕ → ℕ = λ (i : ℕ). look_slot c.args.cue.now.levels c.args.self.now.patch
     (512 * c.args.ordinal + 1 + i) in
     let lt : c.loop-place.place < length c.loop-place.slots =
     omega (arith, c.loop-place.invariant.size) in
@@ -22,10 +22,9 @@ loop-place-preserved c =
           (fill_by_more f c.loop-place.slots c.loop-place.place 0 lt c.loop-place.invariant.so_far);
     }
 
-pub returns-after-loop-place : goal.returns-after-loop-place
-returns-after-loop-place c =
-    rw (← c.cue.ensures, c.in-Some.is)
-    (frame_is (look_slot c.in-Some.look.levels c.args.self.now.patch)
+pub returns : goal.returns
+returns c =
+    frame_is (look_slot c.args.cue.now.levels c.args.self.now.patch)
     (512 * c.args.ordinal + 1) 512 c.loop-place.slots c.loop-place.invariant.size
     (λ i lt. let before : i < c.loop-place.place = omega arith in
-    c.loop-place.invariant.so_far i before))
+    c.loop-place.invariant.so_far i before)

@@ -5,5 +5,5 @@ abbrev pub invariant-loop-place : goal.invariant-loop-place
 invariant-loop-place l = record {
   size : length l.slots ≡ 512;
   so_far : (i : ℕ) → i < l.place
-      → get_or l.slots i 0 ≡ look_slot l.look.levels l.self.patch (512 * l.ordinal + 1 + i);
+      → get_or l.slots i 0 ≡ look_slot l.cue.levels l.self.patch (512 * l.ordinal + 1 + i);
 }
