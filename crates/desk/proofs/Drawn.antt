@@ -1,5 +1,5 @@
 -- Frames, from the levels that they are made of.
-use Rattle.desk.proofs.Terms.{◌≡◌, ℕ, ◌+◌, ◌*◌, ◌<◌, Bool, true, false, ◌&&◌, IsTrue, List, [], ◌∷◌}
+use Rattle.desk.proofs.Terms.{◌≡◌, ℕ, ◌+◌, ◌*◌, ◌<◌, Bool, true, false, IsTrue, List, [], ◌∷◌}
 use Rattle.desk.proofs.Terms.{length, Option, Some, None, is_some, refl, subst, ap, ◌∙◌, arith, All}
 use Rattle.desk.proofs.Terms.{IfSome, max, map, replicate, slice_get, range_with_len, option_map_or}
 use Rattle.desk.proofs.Terms.{length-replicate, get_or-replicate, slice_get-get_or, is_channel}
@@ -10,6 +10,10 @@ use Rattle.desk.proofs.Terms.{Group, Master, End, false≢true, keeps_floors, da
 use Rattle.desk.proofs.Terms.{frame, Move, with_due, moves_by, with_due-again, Act, order, tick}
 use Rattle.desk.proofs.Terms.{ticks_since_end, moves, settings}
 use Rattle.std.specs.FinMap as maps
+use Rattle.std.proofs.Common.{cond}
+use Rattle.desk.specs.declared.kept.FloorState.{FloorState}
+use Rattle.desk.specs.declared.kept.FloorState.TheVariants.{Stale}
+use Rattle.desk.specs.Inside.{are_current}
 
 -- over a playback level, what submasters and groups make of a dark one
 over : (playback floor : ℕ) → max playback (max 0 floor) ≡ max playback floor
@@ -46,9 +50,11 @@ floors_same show history moment channel (Group n byte) h = absurd (false≢true 
 floors_same show history moment channel (Master byte) h = refl
 floors_same show history moment channel End h = refl
 
-pub both : (a b : Bool) → IsTrue (a && b) → IsTrue a × IsTrue b
-both true b h = (refl, h)
-both false b h = absurd (false≢true h)
+-- floors that are current behind a command were so before it, and the command keeps them
+pub floors_stay : (state : FloorState) (keeps : Bool)
+    → IsTrue (are_current (cond keeps state Stale)) → IsTrue (are_current state) × IsTrue keeps
+floors_stay state true h = (h, refl)
+floors_stay state false h = absurd (false≢true h)
 
 -- maps by functions that agree
 map-same : {X Y : Type 0} (f g : X → Y) → ((x : X) → f x ≡ g x) → (xs : List X)

@@ -16,14 +16,15 @@ ghost use Rattle.desk.specs.Played.{Act, order, tick, ticks_since_end, ended_by,
 ghost use Rattle.desk.specs.Played.{time_refusal, is_after_end, is_soon, lack_refusal, refusal};
 ghost use Rattle.desk.specs.Played.{outcome, tick_answer};
 ghost use Rattle.desk.specs.DeskState.{DeskState};
-ghost use Rattle.desk.specs.Inside.{IsDesk};
+ghost use Rattle.desk.specs.Inside.{IsDesk, are_current, are_kept};
 ghost use Rattle.desk.specs.Meaning.{latest_frame, universe_numbers};
-ghost use Rattle.desk.specs.Stands.{StandsFor, keeps_floors};
+ghost use Rattle.desk.specs.Stands.{StandsFor};
 ghost use Rattle.desk.specs.Ticks.{Ticks, IsKeptBut};
 
 use crate::answer::{Refused, Ticked};
 use crate::command::Command;
-use crate::frames::{Merged, darken, draw_merged, has_floors, redraw_merged};
+use crate::frames::{Merged, darken, draw_merged, redraw_merged};
+use crate::kept::{FloorState, FrameState};
 use arrayvec::ArrayVec;
 use fade::Fader;
 use masters::Masters;
@@ -67,12 +68,10 @@ pub struct Desk<F: Fader> {
     universes: ArrayVec<u16, 16>,
     levels: Vec<u16>,
     floors: Vec<u16>,
-    are_floors: bool,
-    // Whether a floor may be above 0.
-    has_floors: bool,
+    floor_state: FloorState,
     // The slots of all dimmers, in a row.
     slots: Vec<u8>,
-    is_kept: bool,
+    frame_state: FrameState,
 }
 
 impl<F: Fader> Model for Desk<F> {
@@ -89,13 +88,13 @@ impl<F: Fader> Model for Desk<F> {
       last_tick = d.last_tick;
       ended = d.ended;
       floors = d.floors.items;
-      are_floors = d.are_floors;
+      are_floors = are_current d.floor_state;
       frames = frames_in d.slots.items;
-      is_kept = d.is_kept;
+      is_kept = are_kept d.frame_state;
     } };
 
     ghost invariant = { λ d. IsDesk (F.latest d.playback.fader) d.last_moment d.rig d.show
-        d.universes.items d.levels.items d.floors.items d.has_floors d.slots.items };
+        d.universes.items d.levels.items d.floors.items d.floor_state d.slots.items };
 }
 
 impl<F: Fader> fmt::Debug for Desk<F> {
@@ -141,10 +140,9 @@ impl<F: Fader> Desk<F> {
             universes,
             levels,
             floors,
-            are_floors: false,
-            has_floors: false,
+            floor_state: FloorState::Stale,
             slots,
-            is_kept: false,
+            frame_state: FrameState::Stale,
         })
     }
 
@@ -175,8 +173,8 @@ impl<F: Fader> Desk<F> {
             moment,
             command,
         )?;
-        self.is_kept = false;
-        self.are_floors &= keeps_floors(command);
+        self.frame_state = FrameState::Stale;
+        self.floor_state = self.floor_state.state_after(command);
         self.ended = ending_begun(command);
         self.last_moment = moment;
         Ok(())
@@ -264,10 +262,9 @@ impl<F: Fader> Desk<F> {
             → StandsFor F.stands_for show base self.old history
             → StandsFor F.stands_for show base self.new history }
     {
-        if !self.are_floors {
+        if let FloorState::Stale = self.floor_state {
             self.masters.write_floors(&self.show, &mut self.floors);
-            self.are_floors = true;
-            self.has_floors = has_floors(&self.floors);
+            self.floor_state = FloorState::of(&self.floors);
         }
     }
 
@@ -279,7 +276,7 @@ impl<F: Fader> Desk<F> {
         ensures kept { IfSome result (λ channels.
             IsKeptBut F.stands_for F.latest self.now moment channels.now) }
     {
-        if !self.is_kept || self.playback.is_due(moment) {
+        if !self.frame_state.are_kept() || self.playback.is_due(moment) {
             return None;
         }
         self.playback.moving()
@@ -316,7 +313,7 @@ impl<F: Fader> Desk<F> {
             &Merged {
                 playback: &self.playback,
                 floors: &self.floors,
-                has_floors: self.has_floors,
+                has_floors: self.floor_state.may_be_lit(),
                 grand: self.masters.grand(),
             },
         );
@@ -340,11 +337,11 @@ impl<F: Fader> Desk<F> {
             &Merged {
                 playback: &self.playback,
                 floors: &self.floors,
-                has_floors: self.has_floors,
+                has_floors: self.floor_state.may_be_lit(),
                 grand: self.masters.grand(),
             },
         );
-        self.is_kept = true;
+        self.frame_state = FrameState::Kept;
         self.last_moment = moment;
         self.last_tick = Some(moment);
     }
@@ -358,7 +355,7 @@ impl<F: Fader> Desk<F> {
         ensures { Ticks F.stands_for self.old self.new moment }
     {
         darken(&mut self.slots);
-        self.is_kept = false;
+        self.frame_state = FrameState::Stale;
         self.ended = Some(ticks);
         self.last_moment = moment;
         self.last_tick = Some(moment);
@@ -472,16 +469,6 @@ fn ending_begun(command: Command) -> Option<u8>
     match command {
         Command::End => Some(0),
         _ => None,
-    }
-}
-
-// Whether a command leaves the floors as they are.
-fn keeps_floors(command: Command) -> bool
-    ensures { result ≡ keeps_floors command }
-{
-    match command {
-        Command::Sub(_, _) | Command::Group(_, _) => false,
-        _ => true,
     }
 }
 

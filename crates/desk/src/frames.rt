@@ -28,13 +28,6 @@ pub struct Merged<'a, F: Fader> {
     ghost none: { IsFalse has_floors → All (λ floor. floor ≡ 0) floors.now },
 }
 
-// Whether a floor is above 0.
-pub fn has_floors(floors: &[u16]) -> bool
-    ensures { IsFalse result → All (λ floor. floor ≡ 0) floors.now }
-{
-    floors.iter().any(|floor| *floor > 0)
-}
-
 // Draws the frames of the merged levels.
 pub fn draw_merged<F: Fader>(
     slots: &mut [u8],

@@ -18,6 +18,7 @@ mod answer;
 mod command;
 mod desk;
 mod frames;
+mod kept;
 
 pub use answer::{Refused, Ticked};
 pub use command::Command;

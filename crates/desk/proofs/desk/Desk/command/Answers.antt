@@ -1,5 +1,6 @@
-use Rattle.desk.proofs.Terms.{rules, sym, ◌∙◌}
-use Rattle.desk.proofs.Drawn.{both, floors_same}
+use Rattle.desk.proofs.Terms.{rules, ◌∙◌}
+use Rattle.desk.specs.Stands.{keeps_floors}
+use Rattle.desk.proofs.Drawn.{floors_stay, floors_same}
 use Rattle.desk.proofs.desk.Desk.command.Goals as goal
 
 pub returns-clause-stands : goal.returns-clause-stands
@@ -13,9 +14,9 @@ returns-clause-stands g c = rw (← c.self.view_is) (λ show base history stands
   ended_is = search rules;
   frames_are = search rules;
   floors_are = λ kept channel is.
-      let parts = both c.self.inside.are_floors c.keeps_floors.result kept in
+      let parts = floors_stay c.self.inside.floor_state (keeps_floors c.args.command)
+      (rw c.state_after-self-inside.ensures at kept) in
       stands.floors_are parts.0 channel is
-      ∙ floors_same show history c.args.moment channel c.args.command (sym
-      c.keeps_floors.ensures ∙ parts.1);
+      ∙ floors_same show history c.args.moment channel c.args.command parts.1;
   kept = search rules;
 })

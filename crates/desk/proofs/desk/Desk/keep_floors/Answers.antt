@@ -2,8 +2,8 @@ use Rattle.desk.proofs.Terms.{◌≡◌, ℕ, IsTrue, ap, ◌∙◌, arith, rule
 use Rattle.desk.proofs.Terms.{is_channel, merged_after, listed_level, settings}
 use Rattle.desk.proofs.desk.Desk.keep_floors.Goals as goal
 
-pub returns-then-not-self-clause-stands : goal.returns-then-not-self-clause-stands
-returns-then-not-self-clause-stands g c =
+pub returns-in-Stale-clause-stands : goal.returns-in-Stale-clause-stands
+returns-in-Stale-clause-stands g c =
     rw (← c.self.view_is) (λ show base history stands.
     let written : (with_items c.self.inside.floors c.write_floors.new.floors).items
     ≡ c.write_floors.new.floors = with_items_is c.self.inside.floors c.write_floors.new.floors
