@@ -12,7 +12,8 @@ returns-in-Some-clause-drawn g c = λ show moves stopped level channels stands s
     (omega (arith, channel_range channel is, c.args.merged.now.each_channel))
     (c.args.merged.now.none c.if-not-merged.true) in
     let playing = c.in-Some.ensures.levels show moves stopped channel stands is in
-    omega (arith, none, playing, same channel is)) c.args.merged.now.grand (frames_in c.draw.new.slots) c.draw.ensures
+    omega (arith, none, playing, same channel is))
+    c.args.merged.now.grand (frames_in c.draw.new.slots) c.draw.ensures
 
 pub returns-in_default-clause-drawn : goal.returns-in_default-clause-drawn
 returns-in_default-clause-drawn g c = λ show moves stopped level channels stands same.
