@@ -20,7 +20,7 @@ pub fn source_name(night: &Night) -> &str
 ///
 /// # Errors
 ///
-/// Where memory was refused.
+/// If an allocation failed.
 pub fn name_on(alloc: Global, machine: &[u8]) -> Result<ArrayVec<u8, 63>, AllocError>
     ensures { IfOk result (λ name. name.items ≡ name_on machine.now) }
 {

@@ -12,7 +12,7 @@ use system_devices::machine_name;
 ///
 /// # Errors
 ///
-/// Where memory was refused.
+/// If an allocation failed.
 pub fn live_name(rt: &HostRuntime, words: LiveWords<'_>) -> Result<Name, AllocError> {
     if let Some(name) = recorded_name(rt, words)
         && let Ok(name) = str::from_utf8(name.as_bytes())

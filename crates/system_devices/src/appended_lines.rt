@@ -81,7 +81,7 @@ struct AwaitedLines<'a, 'l> {
 impl ComingLines for AwaitedLines<'_, '_> {
     ghost tells = { λ _. ⊥ };
 
-    ghost tape = { λ _. record { given = []; turns = 0; failures = 0 } };
+    ghost steps = { λ _. [] };
 
     fn look_for_line(&mut self) -> Result<Option<LineFront>, LinkFault> {
         match self.lines.look() {
