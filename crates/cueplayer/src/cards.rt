@@ -1,16 +1,12 @@
 use crate::device_failure::of_socket_fault;
-use arrayvec::{ArrayString, ArrayVec};
+use arrayvec::ArrayVec;
 use cmd_faults::RunFault;
 use cmd_words::{Name, Night};
-use network_tables::{Card, CardRefusal, CardState, CardWord, Cards, choose};
+use network_tables::{Card, CardRefusal, CardState, CardWord, Cards, HiddenCards, choose};
 use night_lines::sole_target;
 use remarks::{DownCards, Failure, JobFault, Remark, of_card, of_route, of_target};
 use show_reader::read_show;
-use std::fmt::Write;
 use system_devices::{Leaving, Network, card_state, read_cards};
-
-// The names of cards, with commas between them.
-type CardNames = ArrayString<160>;
 
 /// Refuses targets that do not suit the universes of a show.
 ///
@@ -83,46 +79,30 @@ fn source_of(rt: &HostRuntime, night: &Night) -> Result<Option<[u8; 4]>, JobFaul
     let cards = read_cards(rt);
     let word = CardWord::read(named);
     let row = word.row_of(&cards);
-    let state = state_of(rt, &row);
+    let state = match &row {
+        Some(card) => state_of(rt, card),
+        None => CardState::Up,
+    };
     match choose(&word, row, state) {
         Ok(address) => Ok(Some(address)),
         Err(refusal) => Err(JobFault::Words(of_refusal(rt, named, refusal, &cards))),
     }
 }
 
-fn state_of(rt: &HostRuntime, row: &Option<Card>) -> CardState {
-    if let Some(card) = row
-        && let Some(name) = &card.name
-    {
-        return card_state(rt, name.as_str());
+fn state_of(rt: &HostRuntime, card: &Card) -> CardState {
+    match &card.name {
+        Some(name) => card_state(rt, name.as_str()),
+        None => CardState::Up,
     }
-    CardState::Up
-}
-
-// Adds the cards without an address that are down, where there is room for their names.
-fn down_cards(rt: &HostRuntime, names: &mut CardNames, cards: &Cards) -> usize {
-    let mut count = 0_usize;
-    for card in cards.as_slice() {
-        let (Some(name), None) = (&card.name, card.address) else {
-            continue;
-        };
-        let name = name.as_str();
-        if card_state(rt, name) == CardState::Down {
-            let front = if count == 0 { "" } else { ", " };
-            let _ = write!(names, "{front}{name}");
-            count = count.saturating_add(1);
-        }
-    }
-    count
 }
 
 // Why a card that was named cannot be sent by.
 fn of_refusal(rt: &HostRuntime, named: &str, refusal: CardRefusal, cards: &Cards) -> Remark {
-    let mut names = CardNames::new();
-    let count = match refusal {
-        CardRefusal::UnknownCard => down_cards(rt, &mut names, cards),
-        _ => 0,
-    };
-    let names = names.as_str();
+    let mut hidden = HiddenCards::new();
+    for card in cards.as_slice() {
+        hidden.take_up(card, state_of(rt, card));
+    }
+    let names = hidden.names.as_str();
+    let count = hidden.count;
     of_card(named, refusal, cards, DownCards { names, count })
 }

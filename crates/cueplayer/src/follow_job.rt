@@ -34,7 +34,7 @@ pub fn play_following(
     rt: &HostRuntime,
     bill: &Playbill<'_, '_>,
     words: MainWords<'_>,
-    standard: Standard,
+    standard: Standard<'_>,
 ) -> NightEnd {
     let main = open_main(rt, bill, words)?;
     let devices = LiveDevices::open(rt, bill, standard)?;
@@ -63,7 +63,7 @@ fn follow_main<F: Fader>(
     rt: &HostRuntime,
     bill: &Playbill<'_, '_>,
     main: Main<'_>,
-    devices: LiveDevices,
+    devices: LiveDevices<'_>,
     night: &mut Night<F>,
 ) -> NightEnd
     requires { CanFollow F.stands_for night.old }

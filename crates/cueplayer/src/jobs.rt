@@ -23,9 +23,7 @@ use sacn_source::Identity;
 use show_reader::read_show;
 use std::cell::RefCell;
 use std::io::{BufWriter, ErrorKind, Stdout};
-use system_devices::{
-    CardSender, CidLock, Network, ReceivingSocket, SystemInput, SystemOutput, WatchedOutput,
-};
+use system_devices::{CardSender, CidLock, Network, ReceivingSocket, SystemInput, SystemOutput};
 use targets::TargetLink;
 
 /// Told where a night has no lock of its CID.
@@ -145,14 +143,14 @@ fn show_cues(rt: &HostRuntime, show: &str, is_json: bool) -> Result<(), Failure>
 
 fn look_at(rt: &HostRuntime, show: &str, cue: u32, cid: [u8; 16]) -> Result<(), Failure> {
     let text = show_text(rt, show)?;
-    let mut out = WatchedOutput::new(SystemOutput::new(rt.stdout()));
+    let mut out = SystemOutput::new(rt.stdout());
     let answer = look(rt.alloc(), text.as_slice(), cue, cid, &mut out);
     slots_end(rt, answer, text.as_slice(), &out)
 }
 
 fn show_slots(rt: &HostRuntime, show: &str, cue: u32, base: u16) -> Result<(), Failure> {
     let text = show_text(rt, show)?;
-    let mut out = WatchedOutput::new(SystemOutput::new(rt.stdout()));
+    let mut out = SystemOutput::new(rt.stdout());
     let answer = slots(rt.alloc(), text.as_slice(), cue, base, &mut out);
     slots_end(rt, answer, text.as_slice(), &out)
 }
@@ -163,7 +161,7 @@ fn slots_end(
     rt: &HostRuntime,
     answer: Result<(), RunFault>,
     show: &[u8],
-    out: &WatchedOutput<SystemOutput<Stdout>>,
+    out: &SystemOutput<Stdout>,
 ) -> Result<(), Failure> {
     run_end(answer, show, out.failure())?;
     if out.is_empty() {

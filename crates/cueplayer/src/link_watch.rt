@@ -1,7 +1,5 @@
 use crate::screen::Screen;
-use link_notices::{
-    LinkNotice, LinkNotices, LinkWatch, NetworkLook, PathNotice, SourceNotice, Trouble,
-};
+use link_notices::{LinkNotice, LinkNotices, LinkWatch, NetworkLook, PathNotice, SourceNotice};
 use night_lines::{Way, path_notice_line, source_notice_line};
 use std::cell::RefCell;
 use std::time::Instant;
@@ -90,8 +88,7 @@ fn tell_path(
         source: network.source_of(path).map(Source::card_address),
         neighbor: path.neighbor,
     };
-    let is_new = notice.was == Trouble::NoRouteYet && notice.is == Trouble::None;
-    let route = if is_new {
+    let route = if notice.is_first_route() {
         route_to(rt, path.host)
     } else {
         None

@@ -11,7 +11,7 @@ use night_lines::{input_ended_line, typed_end_line};
 use night_record::{NightLines, line_moment, where_moment};
 use remarks::refused_line;
 use std::time::Instant;
-use system_devices::{Keyboard, Record, SystemClock};
+use system_devices::{Record, SystemClock, TypedInput};
 
 // Why a line that is typed while the night follows a main is refused.
 const MAIN_LEADS: &str = "the main leads; take ends the following";
@@ -22,7 +22,7 @@ const MAIN_LEADS: &str = "the main leads; take ends the following";
 pub struct LiveBooth<'a> {
     rt: &'a HostRuntime,
     clock: NightClock<SystemClock<'a>>,
-    input: NightInput<Keyboard<'a>>,
+    input: NightInput<TypedInput<'a>>,
     input_end: InputEnd,
     record: Record,
     screen: Screen,
@@ -34,7 +34,7 @@ impl<'a> LiveBooth<'a> {
     pub fn new(
         rt: &'a HostRuntime,
         start: Instant,
-        input: NightInput<Keyboard<'a>>,
+        input: NightInput<TypedInput<'a>>,
         night_record: Record,
         screen: Screen,
     ) -> Self {

@@ -13,7 +13,7 @@ use night_record::NightOpening;
 use remarks::{Failure, JobFault};
 use std::cell::RefCell;
 use std::time::Instant;
-use system_devices::{CidLock, Keyboard, Network, Pause, Record, RecordFile, TypedInput};
+use system_devices::{CidLock, Network, Pause, Record, RecordFile, TypedInput};
 
 // Told where the file system of a record has no locks.
 const NO_RECORD_LOCK: &[u8] =
@@ -21,8 +21,8 @@ const NO_RECORD_LOCK: &[u8] =
 
 /// What a live night plays from and to, before it begins.
 #[derive(Drop)]
-pub struct LiveDevices {
-    input: TypedInput,
+pub struct LiveDevices<'a> {
+    input: TypedInput<'a>,
     screen: Screen,
     record: Option<RecordFile>,
     /// How the record begins, or goes on.
@@ -42,7 +42,7 @@ pub struct Beginning<'a> {
     pub passed: u64,
 }
 
-impl LiveDevices {
+impl<'a> LiveDevices<'a> {
     /// The record comes before the CID: of a night that is on, its file is told.
     ///
     /// # Errors
@@ -51,7 +51,7 @@ impl LiveDevices {
     pub fn open(
         rt: &HostRuntime,
         bill: &Playbill<'_, '_>,
-        standard: Standard,
+        standard: Standard<'a>,
     ) -> Result<Self, JobFault> {
         let record = match bill.words.record_file {
             None => None,
@@ -76,7 +76,7 @@ impl LiveDevices {
     pub fn with_record(
         rt: &HostRuntime,
         bill: &Playbill<'_, '_>,
-        standard: Standard,
+        standard: Standard<'a>,
         record: Option<RecordFile>,
         opening: NightOpening,
     ) -> Result<Self, JobFault> {
@@ -108,7 +108,7 @@ impl LiveDevices {
     /// # Errors
     ///
     /// Where memory is refused, or the clock or the record fails.
-    pub fn begin<'a>(
+    pub fn begin(
         mut self,
         rt: &'a HostRuntime,
         bill: &Playbill<'_, '_>,
@@ -140,7 +140,7 @@ impl LiveDevices {
             milliseconds: passed,
         } = pause_before(rt, record.as_ref(), &opening)?;
         let record = begin_record(rt, words, record, &opening, &mut screen)?;
-        let input = NightInput::new(Keyboard::new(rt, input), words.ends_with_input);
+        let input = NightInput::new(input, words.ends_with_input);
         Ok(Beginning {
             network: RefCell::new(network),
             lock,

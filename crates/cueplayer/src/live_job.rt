@@ -98,7 +98,7 @@ fn play_night(rt: &HostRuntime, night: &Night, words: LiveWords<'_>, source: Ide
 }
 
 // Plays a night that begins, or goes on from its record.
-fn play_alone(rt: &HostRuntime, bill: &Playbill<'_, '_>, standard: Standard) -> NightEnd {
+fn play_alone(rt: &HostRuntime, bill: &Playbill<'_, '_>, standard: Standard<'_>) -> NightEnd {
     let devices = LiveDevices::open(rt, bill, standard)?;
     let mut night = open_night::<StepFader>(rt, bill, &devices.opening, devices.text())?;
     lead(rt, bill, devices, &mut night)
@@ -108,7 +108,7 @@ fn play_alone(rt: &HostRuntime, bill: &Playbill<'_, '_>, standard: Standard) -> 
 pub fn lead<F: Fader>(
     rt: &HostRuntime,
     bill: &Playbill<'_, '_>,
-    devices: LiveDevices,
+    devices: LiveDevices<'_>,
     night: &mut LiveNight<F>,
 ) -> NightEnd
     requires { IsPlayable F.stands_for night.old }

@@ -14,9 +14,6 @@ use system_devices::AppendedLines;
 // again.
 const TURN: u64 = 5;
 
-// The head of a record is two lines.
-const HEAD_LINES: u64 = 2;
-
 /// The record of a main as it grows, and what is typed meanwhile. The lines that stand in it at the
 /// start come first, and then an end, so that they can be carried out over no link.
 #[derive(Drop)]
@@ -31,8 +28,7 @@ struct WatchedMain<'a> {
     booth: LiveBooth<'a>,
     file: &'a str,
     lines: AppendedLines,
-    // The number of the newest line, from 1, and when it came.
-    number: u64,
+    // When the newest line came.
     last: Instant,
     // Behind the lines that stood there at the start.
     has_begun: bool,
@@ -54,7 +50,6 @@ impl<'a> MainRecord<'a> {
             booth,
             file: words.file,
             lines,
-            number: HEAD_LINES,
             last: now,
             has_begun: false,
             typed: NightLines::new(),
@@ -72,7 +67,7 @@ impl<'a> MainRecord<'a> {
 
     /// The number of the newest line, from 1.
     pub fn number(&self) -> u64 {
-        self.backup.watch.number
+        self.backup.watch.lines.number()
     }
 
     /// From now on lines are those that come.
@@ -114,7 +109,6 @@ impl MainWatch for WatchedMain<'_> {
 
     fn next_line(&mut self) -> Option<LineFront> {
         let line = self.lines.next_line()?;
-        self.number = self.number.saturating_add(1);
         if let Ok(now) = Instant::now(self.rt) {
             self.last = now;
         }

@@ -11,9 +11,6 @@ use system_devices::{AppendedLines, RecordFault, RecordFile};
 // It is looked so often, in milliseconds, whether the night is still played.
 const TURN: u64 = 10;
 
-// The head of a record is two lines.
-const HEAD_LINES: u64 = 2;
-
 /// The record of a night that another process plays, until that has ended: then its file is locked,
 /// and each of its lines was given.
 #[derive(Drop)]
@@ -28,8 +25,6 @@ struct WatchedFile<'a> {
     name: &'a str,
     lines: AppendedLines,
     file: RecordFile,
-    // The number of the newest line, from 1.
-    number: u64,
     fault: Option<RecordFault>,
 }
 
@@ -41,7 +36,6 @@ impl<'a> OwnRecord<'a> {
             name,
             lines,
             file,
-            number: HEAD_LINES,
             fault: None,
         };
         OwnRecord {
@@ -56,7 +50,7 @@ impl<'a> OwnRecord<'a> {
 
     /// The number of the newest line, from 1.
     pub fn number(&self) -> u64 {
-        self.spare.record.number
+        self.spare.record.lines.number()
     }
 
     /// The file, locked, and how many of its bytes were given in lines; or why it cannot be kept.
@@ -98,9 +92,7 @@ impl PlayedRecord for WatchedFile<'_> {
     ghost written = { λ _. [] };
 
     fn next_line(&mut self) -> Option<LineFront> {
-        let line = self.lines.next_line()?;
-        self.number = self.number.saturating_add(1);
-        Some(line)
+        self.lines.next_line()
     }
 
     fn look(&mut self) -> Result<bool, LinkFault> {

@@ -20,7 +20,7 @@ pub fn play_as_spare(
     rt: &HostRuntime,
     bill: &Playbill<'_, '_>,
     name: &str,
-    standard: Standard,
+    standard: Standard<'_>,
 ) -> NightEnd {
     let record = open_record(rt, bill, name)?;
     let mut night = new_night::<StepFader>(rt, bill)?;
@@ -48,7 +48,7 @@ fn open_record<'a>(
 fn stand_by<F: Fader>(
     rt: &HostRuntime,
     bill: &Playbill<'_, '_>,
-    standard: Standard,
+    standard: Standard<'_>,
     mut record: OwnRecord<'_>,
     night: &mut Night<F>,
 ) -> NightEnd

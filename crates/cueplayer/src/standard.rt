@@ -5,17 +5,17 @@ use system_devices::{Messages, TypedInput};
 
 /// The descriptors that a live night was started with. Standard error may be closed.
 #[derive(Drop)]
-pub struct Standard {
-    pub input: TypedInput,
+pub struct Standard<'a> {
+    pub input: TypedInput<'a>,
     pub messages: Messages,
 }
 
-impl Standard {
+impl<'a> Standard<'a> {
     /// # Errors
     ///
     /// `Device` where standard output is closed, or standard input cannot be waited for; `Memory`
     /// if an allocation failed.
-    pub fn open(rt: &HostRuntime) -> Result<Self, Failure> {
+    pub fn open(rt: &'a HostRuntime) -> Result<Self, Failure> {
         ask_for(&rt.stdout(), "standard output")?;
         let is_told = ask_for(&rt.stderr(), "standard error").is_ok();
         let input = TypedInput::open(rt).map_err(of_device_fault)?;

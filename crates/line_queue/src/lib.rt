@@ -22,7 +22,7 @@ mod watch;
 mod writers;
 
 pub use laws::notices_law;
-pub use memory::MemoryPipe;
+pub use memory::{MemoryPipe, MemoryWriters};
 pub use notice::{Notice, NoticeText};
 pub use owed::{
     GivenBytes, OwedLine, WrittenFile, WrittenFiles, outputs_owed_line, owed_by_outputs,

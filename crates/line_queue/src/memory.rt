@@ -1,3 +1,5 @@
+mod writers;
+
 ghost use Rattle.std.specs.Prelude.{◌≡◌, ◌≤◌, ◌+◌, ◌-◌, ◌++◌, [], false, is_err, length, min};
 ghost use Rattle.std.specs.Prelude.{nat_lt, take};
 ghost use Rattle.std.specs.Prelude.{IfErr, IfOk, None, Some};
@@ -9,6 +11,7 @@ use crate::Pipe;
 use devices::memory::Faults;
 use std::alloc::Global;
 use std::io::ErrorKind;
+pub use writers::MemoryWriters;
 
 /// A pipe over memory. It stops telling where memory for the bytes is refused, and where its calls
 /// or the milliseconds given to it are more than 2^64 - 1.

@@ -1,5 +1,5 @@
 -- What is told after a look.
-use Rattle.std.specs.Prelude.{Bool, Option, Some, None, if◌then◌else◌}
+use Rattle.std.specs.Prelude.{Bool, true, false, Option, Some, None, if◌then◌else◌}
 use Rattle.link_notices.specs.declared.notice.PathNotice.{PathNotice}
 use Rattle.link_notices.specs.declared.notice.SourceNotice.{SourceNotice}
 use Rattle.link_notices.specs.declared.path.Trouble.{Trouble}
@@ -33,3 +33,8 @@ news_of_path was found =
 abbrev pub again_of_path : Trouble → Bool → Option PathNotice
 again_of_path trouble.None has_link = None
 again_of_path told has_link = if has_link then Some (record { was = told; is = told }) else None
+
+-- a host that no route led to so far can be reached
+abbrev pub is_first_route : Trouble → Trouble → Bool
+is_first_route trouble.NoRouteYet trouble.None = true
+is_first_route was is = false

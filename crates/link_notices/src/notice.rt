@@ -1,3 +1,6 @@
+ghost use Rattle.std.specs.Prelude.{◌≡◌};
+ghost use Rattle.link_notices.specs.Told.{is_first_route};
+
 use crate::{SourceState, Trouble};
 use arrayvec::ArrayVec;
 
@@ -13,6 +16,15 @@ pub struct SourceNotice {
 pub struct PathNotice {
     pub was: Trouble,
     pub is: Trouble,
+}
+
+impl PathNotice {
+    /// Whether there is a route to the host, and there was none before.
+    pub fn is_first_route(self) -> bool
+        ensures { result ≡ is_first_route self.was self.is }
+    {
+        self.was == Trouble::NoRouteYet && self.is == Trouble::None
+    }
 }
 
 /// What is to be told of a network.

@@ -1,5 +1,8 @@
 -- What is waited for, and how long.
-use Rattle.std.specs.Prelude.{◌≤◌, ◌-◌, ℕ, min, Bool, true, List, take}
+use Rattle.std.specs.Prelude.{◌≤◌, ◌-◌, ℕ, min, Bool, true, List, take, nat_eq, Result, Ok, Err}
+use Rattle.std.specs.Prelude.{if◌then◌else◌}
+use Rattle.std.specs.declared.io.ErrorKind.{ErrorKind}
+use Rattle.std.specs.declared.io.ErrorKind.TheVariants as kind
 use Rattle.live_machine.specs.declared.input.Came.{Came}
 use Rattle.live_machine.specs.declared.input.Came.TheVariants.{Bytes, End, TypedEnd, Nothing}
 
@@ -38,3 +41,12 @@ wait_for moment due = min (due - moment) 500
 abbrev pub with_typed_end : Bool → Came → Came
 with_typed_end true TypedEnd = End
 with_typed_end ends came = came
+
+-- what a read of the input brought: at a terminal an end was typed, and more may come; a read that
+-- was interrupted brought nothing, and an input that cannot be read any more has ended
+abbrev pub read_brought : Result ℕ ErrorKind → Bool → Came
+read_brought (Ok count) is_terminal =
+    if nat_eq count 0 then (if is_terminal then TypedEnd else End) else Bytes count
+read_brought (Err kind.Interrupted) is_terminal = Nothing
+read_brought (Err kind.WouldBlock) is_terminal = Nothing
+read_brought (Err _) is_terminal = End

@@ -2,11 +2,12 @@ ghost use Rattle.std.specs.Prelude.{◌≡◌, ◌≤◌, List, [], ◌∷◌, �
 ghost use Rattle.std.specs.Prelude.{OnErr};
 ghost use Rattle.std.specs.Prelude.{Ok};
 ghost use Rattle.live_machine.specs.Input.{CameFits, Wait, brought_by, fault, with_typed_end};
-ghost use Rattle.live_machine.specs.Input.{wait_for};
+ghost use Rattle.live_machine.specs.Input.{read_brought, wait_for};
 ghost use Rattle.live_machine.specs.declared.input.Came.TheVariants.{Bytes, End};
 
 use arrayvec::ArrayVec;
 use devices::LinkFault;
+use std::io::ErrorKind;
 
 /// What is typed is waited for so long at most, in milliseconds, before the network is looked at.
 pub const TURN: u64 = 500;
@@ -22,6 +23,21 @@ pub enum Came {
     TypedEnd,
     /// Nothing.
     Nothing,
+}
+
+impl Came {
+    /// What a read brought, by its answer, and by whether a terminal is read.
+    pub fn of_read(read: Result<usize, ErrorKind>, is_terminal: bool) -> Came
+        ensures { result ≡ read_brought read is_terminal }
+    {
+        match read {
+            Ok(0) if is_terminal => Came::TypedEnd,
+            Ok(0) => Came::End,
+            Ok(count) => Came::Bytes(count),
+            Err(ErrorKind::Interrupted | ErrorKind::WouldBlock) => Came::Nothing,
+            Err(_) => Came::End,
+        }
+    }
 }
 
 /// Where a night's lines are typed.

@@ -7,4 +7,5 @@ pub mod Trees
 pub mod Holders
 pub mod Tables
 pub mod Choices
+pub mod HiddenCards
 pub mod Texts

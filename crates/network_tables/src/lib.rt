@@ -8,6 +8,7 @@
 mod card;
 mod choice;
 mod fields;
+mod hidden_cards;
 mod holder;
 mod laws;
 mod neighbor;
@@ -18,6 +19,7 @@ mod tree;
 
 pub use card::{CardState, card_state};
 pub use choice::{CardRefusal, CardWord, choose};
+pub use hidden_cards::HiddenCards;
 pub use holder::{Holder, card_among, holder_of, host_beside, is_widest};
 pub use laws::{best_route_law, silence_law};
 pub use neighbor::{Neighbor, SILENCE, silence_after, silence_toward};

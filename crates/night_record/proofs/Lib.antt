@@ -5,3 +5,4 @@ mod Heads
 mod Rows
 mod ReadBack
 mod HeadRows
+mod HeadSteps

@@ -1,30 +1,45 @@
 -- How long the head of a record is waited for.
-use Rattle.std.specs.Prelude.{◌≡◌, ◌+◌, ◌≤◌, ◌⊎◌, ℕ, List, ◌∷◌, ◌++◌, Option, Some, None}
+use Rattle.std.specs.Prelude.{◌≡◌, ℕ, zero, suc, ◌+◌, ◌-◌, ◌≤◌, ◌⊎◌, List, [], ◌∷◌, ◌++◌}
+use Rattle.std.specs.Prelude.{Option, Some, None}
+use Rattle.arrayvec.specs.declared.array_vec.ArrayVec.{ArrayVec}
+use Rattle.night_record.specs.declared.head_wait.LineStep.{LineStep}
+use Rattle.night_record.specs.declared.head_wait.LineStep.TheVariants.{Failure, Look, Turn}
 
--- what happened where lines are waited for: the lines that were given, the newest first; how many
--- turns were waited; and how often they could not be read
-pub record ComingTape : Type 0 where
-  pub given : List (List ℕ)
-  pub turns : ℕ
-  pub failures : ℕ
+-- at so many looks no line was there, and a turn passed after each
+abbrev pub waits_for_line : ℕ → List LineStep
+waits_for_line zero = []
+waits_for_line (suc count) = waits_for_line count ++ Look None ∷ Turn ∷ []
 
--- the line that was given, or none
-abbrev pub with_line : Option (List ℕ) → ComingTape → ComingTape
-with_line None tape = tape
-with_line (Some line) tape = record tape { given = line ∷ tape.given }
+-- a line was there after so many turns
+abbrev pub line_after : ℕ → ArrayVec ℕ 201 (Unit {0}) → List LineStep
+line_after turns line = waits_for_line turns ++ Look (Some line) ∷ []
 
-abbrev pub after_turns : ℕ → ComingTape → ComingTape
-after_turns turns tape = record tape { turns = tape.turns + turns }
+-- no line was there: all these turns passed, and the look after them was in vain too; or a look
+-- failed before
+abbrev pub IsLineMissing : ℕ → List LineStep → Type 0
+IsLineMissing turns steps = (steps ≡ waits_for_line turns ++ Look None ∷ [])
+    ⊎ ((count : ℕ) × (count ≤ turns) × (steps ≡ waits_for_line count ++ Failure ∷ []))
 
--- these bytes are the first two lines, and each came within so many turns in all
-pub record IsHeadInTime (turns : ℕ) (head : List ℕ) (old new : ComingTape) : Type 0 where
-  pub first : List ℕ
-  pub second : List ℕ
-  pub lines : head ≡ first ++ 10 ∷ second
-  pub given : new.given ≡ second ∷ first ∷ old.given
-  pub in_time : new.turns ≤ old.turns + turns
+-- these bytes are the first two lines, and both were there after so many turns at most
+pub record IsHeadInTime (turns : ℕ) (head : List ℕ) (steps : List LineStep) : Type 0 where
+  pub first : ArrayVec ℕ 201 (Unit {0})
+  pub second : ArrayVec ℕ 201 (Unit {0})
+  pub before : ℕ
+  pub between : ℕ
+  pub lines : head ≡ first.items ++ 10 ∷ second.items
+  pub in_time : before + between ≤ turns
+  pub happened : steps ≡ line_after before first ++ line_after between second
 
--- no head came: all turns were waited, or the lines could not be read
-abbrev pub IsHeadMissing : ℕ → ComingTape → ComingTape → Type 0
-IsHeadMissing turns old new =
-    (new.turns ≡ old.turns + turns) ⊎ (new.failures ≡ old.failures + 1)
+-- the first line was there, and no second one in the turns that were left
+pub record IsSecondMissing (turns : ℕ) (steps : List LineStep) : Type 0 where
+  pub first : ArrayVec ℕ 201 (Unit {0})
+  pub before : ℕ
+  pub rest : List LineStep
+  pub in_time : before ≤ turns
+  pub happened : steps ≡ line_after before first ++ rest
+  pub missing : IsLineMissing (turns - before) rest
+
+-- the steps towards a head that is there within so many turns, or towards none
+abbrev pub AreHeadSteps : ℕ → Option (List ℕ) → List LineStep → Type 0
+AreHeadSteps turns (Some head) steps = IsHeadInTime turns head steps
+AreHeadSteps turns None steps = IsLineMissing turns steps ⊎ IsSecondMissing turns steps

@@ -10,3 +10,4 @@ pub mod Reading
 pub mod Moments
 pub mod HeadWait
 pub mod NightOpening
+pub mod MemoryLines

@@ -1,22 +1,33 @@
-ghost use Rattle.std.specs.Prelude.{◌≡◌, ◌≤◌, ◌-◌, ◌+◌, ◌⊎◌, IfOk, IfSome, IsNone, OnErr, Some};
+ghost use Rattle.std.specs.Prelude.{◌≡◌, ◌≤◌, ◌-◌, ◌++◌, ◌∷◌, [], List, IfOk, IfSome, IsNone, OnErr};
 ghost use Rattle.std.specs.Prelude.{option_map};
-ghost use Rattle.night_record.specs.HeadWait.{ComingTape, IsHeadInTime, IsHeadMissing};
-ghost use Rattle.night_record.specs.HeadWait.{after_turns, with_line};
+ghost use Rattle.night_record.specs.HeadWait.{AreHeadSteps, IsLineMissing, line_after};
+ghost use Rattle.night_record.specs.declared.head_wait.LineStep.{LineStep as StepOf};
+ghost use Rattle.night_record.specs.declared.head_wait.LineStep.TheVariants.{Failure, Look, Turn};
 
 use crate::head_lines::{FirstLines, first_lines};
 use crate::lines::LineFront;
 use devices::LinkFault;
 
+/// A step of a wait for lines.
+#[derive(Debug, Drop)]
+pub enum LineStep {
+    /// It was looked for the next line, and this one was there, or none.
+    Look(Option<LineFront>),
+    /// A look failed.
+    Failure,
+    /// A turn passed.
+    Turn,
+}
+
 /// The lines of a record that another process writes, as they come.
 ///
-/// They *tell* where contracts can see what was given, under the rules of an
-/// [`Output`](devices::Output).
+/// They *tell* where contracts can see the steps: then they told before each of them, too.
 pub trait ComingLines {
-    /// Contracts can see what was given.
+    /// Contracts can see the steps.
     ghost tells: { Self → Type 0 };
 
-    /// What happened so far.
-    ghost tape: { Self → ComingTape };
+    /// The steps, the first first.
+    ghost steps: { Self → List StepOf };
 
     /// Looks if more came, and gives the next line that is whole, without its LF; of a long one
     /// the first 201 bytes.
@@ -26,15 +37,15 @@ pub trait ComingLines {
     /// Where the record cannot be read.
     fn look_for_line(&mut self) -> Result<Option<LineFront>, LinkFault>
         ensures told { tells self.new → tells self.old }
-        ensures ok { IfOk result (λ line. tells self.new
-            → tape self.new ≡ with_line (option_map (λ l. l.items) line) (tape self.old)) }
-        ensures err { OnErr result (tells self.new → tape self.new
-            ≡ record (tape self.old) { failures = (tape self.old).failures + 1 }) };
+        ensures look { IfOk result (λ line. tells self.new
+            → steps self.new ≡ steps self.old ++ Look line ∷ []) }
+        ensures failure { OnErr result (tells self.new
+            → steps self.new ≡ steps self.old ++ Failure ∷ []) };
 
     /// Waits a turn, before it is looked again.
     fn wait_turn(&mut self)
         ensures told { tells self.new → tells self.old }
-        ensures turn { tells self.new → tape self.new ≡ after_turns 1 (tape self.old) };
+        ensures turn { tells self.new → steps self.new ≡ steps self.old ++ Turn ∷ [] };
 }
 
 // A line, and how many turns are left behind it.
@@ -47,10 +58,9 @@ struct LineInTime {
 /// The first two lines of a record without the last LF, if they come within so many turns in all.
 pub fn head_within<L: ComingLines>(lines: &mut L, turns: u64) -> Option<FirstLines>
     ensures told { L.tells lines.new → L.tells lines.old }
-    ensures head { IfSome result (λ head. L.tells lines.new
-        → IsHeadInTime turns head.items (L.tape lines.old) (L.tape lines.new)) }
-    ensures none { IsNone result → L.tells lines.new
-        → IsHeadMissing turns (L.tape lines.old) (L.tape lines.new) }
+    ensures steps { L.tells lines.new → (steps : List StepOf)
+        × AreHeadSteps turns (option_map (λ head. head.items) result) steps
+        × (L.steps lines.new ≡ L.steps lines.old ++ steps) }
 {
     let first = line_within(lines, turns)?;
     let second = line_within(lines, first.turns_left)?;
@@ -61,11 +71,10 @@ pub fn head_within<L: ComingLines>(lines: &mut L, turns: u64) -> Option<FirstLin
 fn line_within<L: ComingLines>(lines: &mut L, turns: u64) -> Option<LineInTime>
     ensures told { L.tells lines.new → L.tells lines.old }
     ensures within { IfSome result (λ came. came.turns_left ≤ turns) }
-    ensures line { IfSome result (λ came. L.tells lines.new → L.tape lines.new
-        ≡ with_line (Some came.line.items) (after_turns (turns - came.turns_left)
-        (L.tape lines.old))) }
-    ensures none { IsNone result → L.tells lines.new
-        → IsHeadMissing turns (L.tape lines.old) (L.tape lines.new) }
+    ensures line { IfSome result (λ came. L.tells lines.new → L.steps lines.new
+        ≡ L.steps lines.old ++ line_after (turns - came.turns_left) came.line) }
+    ensures none { IsNone result → L.tells lines.new → (steps : List StepOf)
+        × IsLineMissing turns steps × (L.steps lines.new ≡ L.steps lines.old ++ steps) }
 {
     for turn in 0..turns {
         match lines.look_for_line() {

@@ -50,7 +50,7 @@ pub use difference::Difference;
 pub use growth::Growth;
 pub use head::{HeadLines, HeadName, RecordHead};
 pub use head_lines::{FirstLines, first_lines, head_in, kept_line};
-pub use head_wait::{ComingLines, head_within};
+pub use head_wait::{ComingLines, LineStep, head_within};
 pub use lines::{LineFront, NightLines};
 pub use moment::{line_moment, where_moment};
 pub use night_opening::NightOpening;

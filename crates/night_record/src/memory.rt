@@ -1,9 +1,13 @@
-//! A record over memory: it tells what stands in it, and some of its reads fail.
+//! A record over memory, and its lines as they come: they tell what stands in it and what was done,
+//! and some of their calls fail.
+
+mod coming_lines;
 
 ghost use Rattle.std.specs.Prelude.{◌≡◌, ◌≤◌, ◌+◌, ◌-◌, length, min, take, drop, is_err, IfOk};
 ghost use Rattle.devices.specs.Failing.{IsCounted, is_failing};
 
 use crate::growth::Growth;
+pub use coming_lines::MemoryLines;
 use devices::memory::Faults;
 use std::io::ErrorKind;
 

@@ -16,6 +16,7 @@ const TURN: u64 = 5;
 pub struct AppendedLines {
     record: WrittenRecord,
     lines: NightLines,
+    number: u64,
 }
 
 impl AppendedLines {
@@ -33,6 +34,7 @@ impl AppendedLines {
         Ok(Some(AppendedLines {
             record,
             lines: NightLines::new(),
+            number: 0,
         }))
     }
 
@@ -47,7 +49,14 @@ impl AppendedLines {
 
     /// The next line of what has come, without its LF; of a long one the first 201 bytes.
     pub fn next_line(&mut self) -> Option<LineFront> {
-        self.lines.next_line()
+        let line = self.lines.next_line()?;
+        self.number = self.number.saturating_add(1);
+        Some(line)
+    }
+
+    /// The number of the newest line that was given, from 1.
+    pub fn number(&self) -> u64 {
+        self.number
     }
 
     /// Whether the next line has come.
@@ -81,7 +90,7 @@ struct AwaitedLines<'a, 'l> {
 impl ComingLines for AwaitedLines<'_, '_> {
     ghost tells = { λ _. ⊥ };
 
-    ghost tape = { λ _. record { given = []; turns = 0; failures = 0 } };
+    ghost steps = { λ _. [] };
 
     fn look_for_line(&mut self) -> Result<Option<LineFront>, LinkFault> {
         match self.lines.look() {

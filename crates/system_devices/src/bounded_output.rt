@@ -1,15 +1,12 @@
 ghost use Rattle.std.specs.Prelude.{[], false, None};
 
+use crate::descriptor_poll::DescriptorPoll;
 use crate::fault::DeviceFault;
 use crate::way::Way;
 use line_queue::{LineQueue, Notice, OutputLook, Pipe, WrittenFile};
-use mio::unix::SourceFd;
-use mio::{Events, Interest, Poll, Token};
-use std::io::{Error, ErrorKind, Write};
-use std::os::fd::{AsRawFd, RawFd};
-use std::time::Duration;
-
-const OUTPUT: Token = Token(0);
+use mio::Interest;
+use std::io::{Error, ErrorKind, Result as IoResult, Write};
+use std::os::fd::AsRawFd;
 
 /// What an output is called, and what its lines are.
 #[derive(Clone, Copy)]
@@ -22,50 +19,18 @@ pub struct Names {
     pub notice: Notice,
 }
 
-impl Names {
-    fn fault(self, kind: ErrorKind) -> DeviceFault {
-        match kind {
-            ErrorKind::OutOfMemory => DeviceFault::Memory,
-            kind => DeviceFault::Device(self.output, kind),
-        }
-    }
-}
-
 // The way of an output, and the poll that says whether it takes bytes.
 #[derive(Drop)]
 struct PolledWay<W> {
     way: Way<W>,
-    descriptor: RawFd,
-    poll: Poll,
-    events: Events,
-    // A pipe, a terminal or a socket is asked. A file, or the null device, cannot be asked, and
-    // takes bytes always.
-    is_asked: bool,
+    poll: DescriptorPoll,
 }
 
 impl<W: AsRawFd + Drop> PolledWay<W> {
-    fn open(rt: &HostRuntime, output: W, names: Names) -> Result<Self, DeviceFault> {
-        let way = Way::open(rt, output, names.pipe).map_err(|error| names.fault(error.kind()))?;
-        let descriptor = way.as_raw_fd();
-        let poll = Poll::new(rt).map_err(|error| DeviceFault::Device(names.output, error.kind()))?;
-        let Ok(events) = Events::with_capacity(rt.alloc(), 1) else {
-            return Err(DeviceFault::Memory);
-        };
-        let registered = poll
-            .registry()
-            .register(&mut SourceFd(&descriptor), OUTPUT, Interest::WRITABLE);
-        let is_asked = match registered {
-            Ok(()) => true,
-            Err(error) if error.kind() == ErrorKind::PermissionDenied => false,
-            Err(error) => return Err(DeviceFault::Device(names.output, error.kind())),
-        };
-        Ok(PolledWay {
-            way,
-            descriptor,
-            poll,
-            events,
-            is_asked,
-        })
+    fn open(rt: &HostRuntime, output: W, variable: &str) -> IoResult<Self> {
+        let way = Way::open(rt, output, variable)?;
+        let poll = DescriptorPoll::open(rt, way.as_raw_fd(), Interest::WRITABLE)?;
+        Ok(PolledWay { way, poll })
     }
 }
 
@@ -81,19 +46,7 @@ impl<W: Write> Pipe for PolledWay<W> {
     } };
 
     fn takes_bytes(&mut self, milliseconds: u64) -> bool {
-        if !self.is_asked {
-            return true;
-        }
-        // The report is asked for anew, since a write may have left room.
-        let asked = self.poll.registry().reregister(
-            &mut SourceFd(&self.descriptor),
-            OUTPUT,
-            Interest::WRITABLE,
-        );
-        let most = Duration::from_millis(milliseconds);
-        asked.is_ok()
-            && self.poll.poll(&mut self.events, Some(most)).is_ok()
-            && !self.events.is_empty()
+        self.poll.is_ready(milliseconds).unwrap_or(false)
     }
 
     fn write(&mut self, bytes: &[u8]) -> Result<usize, ErrorKind> {
@@ -116,7 +69,10 @@ impl<W: Write + AsRawFd + Drop> BoundedOutput<W> {
     /// `Device` where the output cannot be asked whether it takes bytes, or the pipe to its writer
     /// cannot be opened; `Memory` if an allocation failed.
     pub fn new(rt: &HostRuntime, output: W, names: Names) -> Result<Self, DeviceFault> {
-        let pipe = PolledWay::open(rt, output, names)?;
+        let pipe = PolledWay::open(rt, output, names.pipe).map_err(|error| DeviceFault::of_system(
+            names.output,
+            error,
+        ))?;
         match LineQueue::new(rt.alloc(), pipe, names.notice) {
             Ok(queue) => Ok(BoundedOutput { queue }),
             Err(_) => Err(DeviceFault::Memory),

@@ -1,4 +1,4 @@
-use std::io::ErrorKind;
+use std::io::{Error, ErrorKind};
 
 /// Why a device cannot be had.
 #[derive(Clone, Copy, Debug, PartialEq, Eq)]
@@ -7,4 +7,14 @@ pub enum DeviceFault {
     Device(&'static str, ErrorKind),
     /// An allocation failed.
     Memory,
+}
+
+impl DeviceFault {
+    /// The device of this name failed so.
+    pub fn of_system(name: &'static str, error: Error) -> Self {
+        match error.kind() {
+            ErrorKind::OutOfMemory => DeviceFault::Memory,
+            kind => DeviceFault::Device(name, kind),
+        }
+    }
 }

@@ -8,6 +8,7 @@ use std::io::{ErrorKind, Write};
 pub struct SystemOutput<W> {
     inner: W,
     failure: Option<ErrorKind>,
+    is_empty: bool,
 }
 
 impl<W: Write> SystemOutput<W> {
@@ -15,6 +16,7 @@ impl<W: Write> SystemOutput<W> {
         SystemOutput {
             inner,
             failure: None,
+            is_empty: true,
         }
     }
 
@@ -35,6 +37,11 @@ impl<W> SystemOutput<W> {
     pub fn failure(&self) -> Option<ErrorKind> {
         self.failure
     }
+
+    /// Whether it was handed no byte so far.
+    pub fn is_empty(&self) -> bool {
+        self.is_empty
+    }
 }
 
 impl<W: Write> Output for SystemOutput<W> {
@@ -43,6 +50,7 @@ impl<W: Write> Output for SystemOutput<W> {
     ghost tape = { λ _. record { items = []; failures = 0 } };
 
     fn write(&mut self, bytes: &[u8]) -> Result<(), LinkFault> {
+        self.is_empty &= bytes.is_empty();
         match self.inner.write_all(bytes) {
             Ok(()) => Ok(()),
             Err(error) => {

@@ -1,26 +1,14 @@
 ghost use Rattle.std.specs.Prelude.{[]};
 
+use crate::descriptor_poll::DescriptorPoll;
 use crate::fault::DeviceFault;
 use crate::record_lock::is_same;
-use mio::unix::SourceFd;
-use mio::{Events, Interest, Poll, Token};
+use mio::Interest;
 use night_record::Growth;
 use std::fs::{File, OpenOptions, metadata};
 use std::io::{Error, ErrorKind, Read};
 use std::os::fd::AsRawFd;
 use std::os::unix::fs::{FileExt, FileTypeExt};
-use std::time::Duration;
-
-const NAME: &str = "the main's record";
-
-const RECORD: Token = Token(0);
-
-// A FIFO is asked if something is there.
-#[derive(Drop)]
-struct FifoPoll {
-    poll: Poll,
-    events: Events,
-}
 
 /// A record that another process writes: a regular file, or a FIFO by which it comes.
 ///
@@ -29,7 +17,8 @@ struct FifoPoll {
 pub struct WrittenRecord {
     file: File,
     is_file: bool,
-    fifo: Option<FifoPoll>,
+    // A FIFO is asked if something is there.
+    fifo: Option<DescriptorPoll>,
 }
 
 impl WrittenRecord {
@@ -52,7 +41,8 @@ impl WrittenRecord {
             .open(rt, name)
             .map_err(of_system)?;
         let fifo = if is_fifo {
-            Some(FifoPoll::of(rt, &file)?)
+            let poll = DescriptorPoll::open(rt, file.as_raw_fd(), Interest::READABLE);
+            Some(poll.map_err(of_system)?)
         } else {
             None
         };
@@ -91,7 +81,7 @@ impl Growth for WrittenRecord {
         let count = match &mut self.fifo {
             None => self.file.read_at(block, place),
             Some(fifo) => {
-                if fifo.has_bytes(&self.file) {
+                if fifo.is_ready(0).unwrap_or(false) {
                     self.file.read(block)
                 } else {
                     Ok(0)
@@ -106,37 +96,6 @@ impl Growth for WrittenRecord {
     }
 }
 
-impl FifoPoll {
-    fn of(rt: &HostRuntime, file: &File) -> Result<Self, DeviceFault> {
-        let poll = Poll::new(rt).map_err(of_system)?;
-        let Ok(events) = Events::with_capacity(rt.alloc(), 1) else {
-            return Err(DeviceFault::Memory);
-        };
-        poll.registry()
-            .register(&mut SourceFd(&file.as_raw_fd()), RECORD, Interest::READABLE)
-            .map_err(of_system)?;
-        Ok(FifoPoll { poll, events })
-    }
-
-    // Whether there are bytes now. The report is asked for anew, since a read may have left some.
-    fn has_bytes(&mut self, file: &File) -> bool {
-        let asked = self.poll.registry().reregister(
-            &mut SourceFd(&file.as_raw_fd()),
-            RECORD,
-            Interest::READABLE,
-        );
-        asked.is_ok()
-            && self
-                .poll
-                .poll(&mut self.events, Some(Duration::from_millis(0)))
-                .is_ok()
-            && !self.events.is_empty()
-    }
-}
-
 fn of_system(error: Error) -> DeviceFault {
-    match error.kind() {
-        ErrorKind::OutOfMemory => DeviceFault::Memory,
-        kind => DeviceFault::Device(NAME, kind),
-    }
+    DeviceFault::of_system("the main's record", error)
 }

@@ -1,8 +1,12 @@
 mod following;
+mod head;
+mod lock;
 mod machine;
 mod memory;
 mod packet;
 mod queue;
 mod receiver;
 mod replies;
+mod routes;
 mod source;
+mod writers;

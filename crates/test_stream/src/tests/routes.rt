@@ -1,0 +1,112 @@
+use link_notices::CardAddress;
+use network_tables::CardName;
+use packet_paths::Path;
+use packet_paths::memory::MemorySystem;
+use std::process::Abort;
+
+const HOST: [u8; 4] = [10, 0, 0, 9];
+
+const OWN: [u8; 4] = [10, 0, 0, 2];
+
+const OTHER: [u8; 4] = [10, 1, 0, 2];
+
+// How the system is before a packet goes.
+#[derive(Clone, Copy)]
+struct Before {
+    time: Option<u64>,
+    source: Option<[u8; 4]>,
+    card: &'static str,
+}
+
+// Where a path leads.
+#[derive(Clone, Copy)]
+enum Way {
+    ByItsCard,
+    ByOther(&'static str),
+    Nowhere,
+}
+
+// The system, how many questions it is asked, and where the path leads then.
+type Row = (Before, usize, Way);
+
+const fn known(time: u64, source: [u8; 4], card: &'static str) -> Before {
+    Before {
+        time: Some(time),
+        source: Some(source),
+        card,
+    }
+}
+
+const UNKNOWN: Before = Before {
+    time: None,
+    source: None,
+    card: "?",
+};
+
+fn name(text: &str) -> CardName {
+    CardName::from(text).unwrap_or_default()
+}
+
+fn own() -> CardAddress {
+    CardAddress {
+        address: OWN,
+        card: name("eth0"),
+    }
+}
+
+fn leads(path: &Path, way: Way) -> bool {
+    let other = path.state.refused_card(true);
+    match (way, other) {
+        (Way::ByOther(card), Some(other)) => other.as_str() == card,
+        (Way::ByItsCard, None) => !path.is_without_route(),
+        (Way::Nowhere, None) => path.is_without_route(),
+        _ => false,
+    }
+}
+
+// Whether a look before a packet is as the row has it.
+fn holds(system: &mut MemorySystem, path: &mut Path, row: &Row) -> bool {
+    let (before, times, way) = *row;
+    system.time = before.time;
+    system.source = before.source;
+    system.card = name(before.card);
+    let asked = system.questions.len();
+    path.look_before(system, Some(own()), false);
+    let all = system.questions.len();
+    !system.full && all.saturating_sub(asked) == times && leads(path, way)
+}
+
+fn hold_each(rt: &impl Abort, system: &mut MemorySystem, rows: &[Row]) {
+    let mut path = Path::new(HOST, Some(0), true);
+    for row in rows {
+        assert!(rt; holds(system, &mut path, row));
+    }
+}
+
+#[test]
+fn a_route_is_looked_for_before_packets(rt: HostRuntime) {
+    let rows = &[
+        (known(0, OWN, "eth0"), 2, Way::ByItsCard),
+        // A look counts for less than a millisecond.
+        (known(999_999, OTHER, "wlan0"), 1, Way::ByItsCard),
+        (known(1_000_000, OTHER, "wlan0"), 3, Way::ByOther("wlan0")),
+        // The card of an address that is known is not asked for again.
+        (known(2_000_000, OTHER, "eth0"), 2, Way::ByOther("wlan0")),
+        (UNKNOWN, 2, Way::Nowhere),
+        (known(2_000_001, OWN, "eth0"), 2, Way::ByItsCard),
+        // Another address of the same card.
+        (known(4_000_000, [10, 0, 0, 3], "eth0"), 3, Way::ByItsCard),
+    ];
+    let mut system = MemorySystem::new(rt.alloc(), name("eth0"));
+    hold_each(&rt, &mut system, rows);
+}
+
+#[test]
+fn multicast_and_any_route_need_no_look(rt: HostRuntime) {
+    let mut system = MemorySystem::new(rt.alloc(), name("eth0"));
+    let mut path = Path::new(HOST, Some(0), true);
+    path.look_before(&mut system, Some(own()), true);
+    let mut group = Path::new([239, 255, 0, 1], Some(0), true);
+    group.look_before(&mut system, Some(own()), false);
+    assert!(rt; system.questions.is_empty() && !system.full);
+}

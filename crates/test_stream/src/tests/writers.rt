@@ -1,0 +1,32 @@
+use line_queue::{MemoryWriters, wait_for_writers};
+use std::process::Abort;
+
+// Writers that owe so many bytes and write so many in a millisecond; how many they still owe in the
+// end, and for how many milliseconds they were waited for.
+type Row = (u64, u64, u64, u64);
+
+fn holds(row: &Row) -> bool {
+    let (owed, step, left, waited) = *row;
+    let mut writers = MemoryWriters::new(owed, step);
+    let is_left = wait_for_writers(&mut writers) == left;
+    !writers.is_lost && is_left && writers.waited == waited
+}
+
+fn hold_each(rt: &impl Abort, rows: &[Row]) {
+    for row in rows {
+        assert!(rt; holds(row));
+    }
+}
+
+#[test]
+fn writers_are_waited_for(rt: HostRuntime) {
+    let rows = &[
+        (0, 0, 0, 0),
+        (4096, 4096, 0, 1),
+        (1999, 1, 0, 1999),
+        (2000, 1, 0, 2000),
+        (2001, 1, 1, 2000),
+        (u64::MAX, 0, u64::MAX, 2000),
+    ];
+    hold_each(&rt, rows);
+}
