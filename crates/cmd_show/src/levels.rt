@@ -53,12 +53,7 @@ pub fn slots<W: Output>(
     Ok(())
 }
 
-fn slots_text(
-    alloc: Global,
-    show: &Show,
-    look: &Cue<'_>,
-    base: u16,
-) -> Result<Vec<u8>, AllocError>
+fn slots_text(alloc: Global, show: &Show, look: &Cue<'_>, base: u16) -> Result<Vec<u8>, AllocError>
     ensures { IfOk result (λ text.
         text.items ≡ slots_text look.now.levels show.now.patch base) }
 {
