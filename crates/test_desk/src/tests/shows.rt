@@ -41,18 +41,15 @@ fn add_group(show: &mut Show, n: u16, channel: u16, byte: u8) -> Result<(), Buil
     show.group_level(n, channel, byte)
 }
 
-fn rate(time: u16) -> Rate {
-    Rate {
-        time: u32::from(time),
-        delay: 0,
-    }
-}
-
 fn set_up(show: &mut Show, n: u32, time: u16) -> Result<(), BuildFault> {
     if show.cue(n).is_none() {
         return Err(BuildFault::Limit);
     }
-    show.set_time(n, CueTime::Up(rate(time)));
+    let rate = Rate {
+        time: u32::from(time),
+        delay: 0,
+    };
+    show.set_time(n, CueTime::Up(rate));
     Ok(())
 }
 
@@ -60,7 +57,11 @@ fn set_down(show: &mut Show, n: u32, time: u16) -> Result<(), BuildFault> {
     if show.cue(n).is_none() {
         return Err(BuildFault::Limit);
     }
-    show.set_time(n, CueTime::Down(rate(time)));
+    let rate = Rate {
+        time: u32::from(time),
+        delay: 0,
+    };
+    show.set_time(n, CueTime::Down(rate));
     Ok(())
 }
 
