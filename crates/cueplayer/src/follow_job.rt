@@ -30,11 +30,11 @@ struct Main<'a> {
 }
 
 /// Follows the night of a main, and goes on by itself when it is silent.
-pub fn play_following(
-    rt: &HostRuntime,
+pub fn play_following<'r>(
+    rt: &'r HostRuntime,
     bill: &Playbill<'_, '_>,
     words: MainWords<'_>,
-    standard: Standard<'_>,
+    standard: Standard<'r>,
 ) -> NightEnd {
     let main = open_main(rt, bill, words)?;
     let devices = LiveDevices::open(rt, bill, standard)?;
@@ -59,11 +59,11 @@ fn open_main<'a>(
 }
 
 // Follows a main with these devices.
-fn follow_main<F: Fader>(
-    rt: &HostRuntime,
+fn follow_main<'r, F: Fader>(
+    rt: &'r HostRuntime,
     bill: &Playbill<'_, '_>,
     main: Main<'_>,
-    devices: LiveDevices<'_>,
+    devices: LiveDevices<'r>,
     night: &mut Night<F>,
 ) -> NightEnd
     requires { CanFollow F.stands_for night.old }

@@ -98,17 +98,21 @@ fn play_night(rt: &HostRuntime, night: &Night, words: LiveWords<'_>, source: Ide
 }
 
 // Plays a night that begins, or goes on from its record.
-fn play_alone(rt: &HostRuntime, bill: &Playbill<'_, '_>, standard: Standard<'_>) -> NightEnd {
+fn play_alone<'r>(
+    rt: &'r HostRuntime,
+    bill: &Playbill<'_, '_>,
+    standard: Standard<'r>,
+) -> NightEnd {
     let devices = LiveDevices::open(rt, bill, standard)?;
     let mut night = open_night::<StepFader>(rt, bill, &devices.opening, devices.text())?;
     lead(rt, bill, devices, &mut night)
 }
 
 /// Plays a night that was opened, from its devices.
-pub fn lead<F: Fader>(
-    rt: &HostRuntime,
+pub fn lead<'r, F: Fader>(
+    rt: &'r HostRuntime,
     bill: &Playbill<'_, '_>,
-    devices: LiveDevices<'_>,
+    devices: LiveDevices<'r>,
     night: &mut LiveNight<F>,
 ) -> NightEnd
     requires { IsPlayable F.stands_for night.old }

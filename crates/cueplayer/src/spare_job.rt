@@ -16,11 +16,11 @@ use system_devices::RecordFile;
 
 /// Takes up the record of a night while another process plays it, and goes on with that night as
 /// soon as the process has ended.
-pub fn play_as_spare(
-    rt: &HostRuntime,
+pub fn play_as_spare<'r>(
+    rt: &'r HostRuntime,
     bill: &Playbill<'_, '_>,
     name: &str,
-    standard: Standard<'_>,
+    standard: Standard<'r>,
 ) -> NightEnd {
     let record = open_record(rt, bill, name)?;
     let mut night = new_night::<StepFader>(rt, bill)?;
@@ -45,10 +45,10 @@ fn open_record<'a>(
 }
 
 // Takes up the record, and goes on with its night where it is not over.
-fn stand_by<F: Fader>(
-    rt: &HostRuntime,
+fn stand_by<'r, F: Fader>(
+    rt: &'r HostRuntime,
     bill: &Playbill<'_, '_>,
-    standard: Standard<'_>,
+    standard: Standard<'r>,
     mut record: OwnRecord<'_>,
     night: &mut Night<F>,
 ) -> NightEnd
