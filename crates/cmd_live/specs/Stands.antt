@@ -70,14 +70,28 @@ pub record StandsFor {F : Type 0} (fader_stands_for : F → List Start → Type 
       (history_of p.show (lines_given (answers happened)))
   pub input_stands : live.StandsFor night.input happened
 
+-- a night stands for something that happened to its input, in a production
+abbrev pub HasHistory : {F : Type 0} → (F → List Start → Type 0) → Night F → Type 0
+HasHistory fader_stands_for night = (p : Production) × (happened : List Happening)
+    × StandsFor fader_stands_for p night happened
+
+-- this holds of all that a night stands for, and of its production
+abbrev pub OfEach : {F : Type 0} → (F → List Start → Type 0) → Night F
+    → (Production → List Happening → Type 0) → Type 0
+OfEach fader_stands_for night fact = (p : Production) (happened : List Happening)
+    → StandsFor fader_stands_for p night happened → fact p happened
+
+-- no packet of it was lost either: so it can be played
+abbrev pub IsPlayable : {F : Type 0} → (F → List Start → Type 0) → Night F → Type 0
+IsPlayable fader_stands_for night = HasHistory fader_stands_for night × (night.lost ≡ 0)
+
 -- a night has gone on: it stands for what happened since, behind what happened before; and where
 -- its devices tell, it has lived through all of that
 pub record GoesOn {F : Type 0} (fader_stands_for : F → List Start → Type 0)
     (tell : Type 0) (old new : Night F) (before after : Trace) : Type 0 where
   pub since : List Happening
-  pub stands : (p : Production) (happened : List Happening)
-      → StandsFor fader_stands_for p old happened
-      → StandsFor fader_stands_for p new (since ++ happened)
+  pub stands : OfEach fader_stands_for old (λ p happened.
+      StandsFor fader_stands_for p new (since ++ happened))
   pub lived : tell → (p : Production) (first happened : List Happening) (start : Trace)
       → StandsFor fader_stands_for p old (happened ++ first)
       → Lives p first happened start before old.lost

@@ -11,7 +11,7 @@ ghost use Rattle.live_input.specs.Stands as live;
 ghost use Rattle.cmd_live.specs.Beginning.{BeginsWith, HasTakenUp, IsFirstOther, IsReady};
 ghost use Rattle.cmd_live.specs.Beginning.{OffersLine, OpensNight, TakesUp, has_cue};
 ghost use Rattle.cmd_live.specs.Night.{history_at};
-ghost use Rattle.cmd_live.specs.Stands.{StandsFor};
+ghost use Rattle.cmd_live.specs.Stands.{HasHistory, OfEach, StandsFor};
 
 use crate::night::Night;
 use arrayvec::ArrayString;
@@ -55,8 +55,7 @@ impl<F: Fader> Night<F> {
     pub fn begin_with(&mut self, cue: u32) -> Result<(), RunFault>
         requires ready { IsReady self.old }
         ensures begins { OnOk result (BeginsWith F.stands_for self.old self.new cue) }
-        ensures there { (p : Production) (happened : List Happening)
-            → StandsFor F.stands_for p self.old happened → has_cue result p.show cue }
+        ensures there { OfEach F.stands_for self.old (λ p happened. has_cue result p.show cue) }
         ensures unchanged { OnErr result (self.new ≡ self.old) }
     {
         if self.console.show().cue(cue).is_none() {
@@ -109,18 +108,16 @@ impl<F: Fader> Night<F> {
     // Carries out a line of a record, where it is given again.
     pub(crate) fn recall<L: Link>(&mut self, line: &[u8], link: &mut L) -> bool
         requires ready { IsReady self.old }
-        requires real { (p : Production) × (happened : List Happening)
-            × StandsFor F.stands_for p self.old happened }
+        requires real { HasHistory F.stands_for self.old }
         ensures told { L.tells link.new → L.tells link.old }
-        ensures stands { result ≡ true → (p : Production) (happened : List Happening)
-            → StandsFor F.stands_for p self.old happened
-            → StandsFor F.stands_for p self.new (recall_line line.now happened) }
+        ensures stands { result ≡ true → OfEach F.stands_for self.old (λ p happened.
+            StandsFor F.stands_for p self.new (recall_line line.now happened)) }
         ensures recalls { result ≡ true → (happened : List Happening)
             → live.StandsFor self.old.input happened → IsRecalled line.now happened }
-        ensures offers { result ≡ true → L.tells link.new → (p : Production)
-            (happened : List Happening) → StandsFor F.stands_for p self.old happened
-            → OffersLine p (history_at p.show happened) line.now (L.offered link.old)
-            (L.offered link.new) }
+        ensures offers { result ≡ true → L.tells link.new
+            → OfEach F.stands_for self.old (λ p happened.
+            OffersLine p (history_at p.show happened) line.now (L.offered link.old)
+            (L.offered link.new)) }
         ensures ready { result ≡ true → IsReady self.new }
         ensures other { result ≡ false → (happened : List Happening)
             → live.StandsFor self.old.input happened → IsRecalled line.now happened → ⊥ }

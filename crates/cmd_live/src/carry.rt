@@ -1,9 +1,8 @@
 ghost use Rattle.std.specs.Prelude.{◌≡◌, ◌≤◌, ◌<◌, ◌^◌, ◌++◌, ℕ, Bool, List, Option};
 ghost use Rattle.playback.specs.Placed.{IsPlaceAfter};
 ghost use Rattle.playback.specs.Played.{Move, moves_by};
-ghost use Rattle.desk.specs.Played.{Act, moved_to};
-ghost use Rattle.console.specs.Stands.{StandsFor};
-ghost use Rattle.console.specs.Streams.{Production};
+ghost use Rattle.desk.specs.Played.{moved_to};
+ghost use Rattle.console.specs.Stands.{HasHistory, OfEach, StandsFor};
 ghost use Rattle.console.specs.Spelling.{reading_of};
 ghost use Rattle.cmd_play.specs.Run.{acts_after};
 ghost use Rattle.live_input.specs.Told.{IsGiven};
@@ -31,20 +30,18 @@ pub fn carry_out<F: Fader, B: Booth, L: Link>(
     booth: &mut B,
     link: &mut L,
 ) -> usize
-    requires real { (p : Production) × (history : List Act)
-        × StandsFor F.stands_for p console.old history }
+    requires real { HasHistory F.stands_for console.old }
     requires spelled { (line : List ℕ) × IsGiven given.now line }
     ensures told_booth { B.tells booth.new → B.tells booth.old }
     ensures told_link { L.tells link.new → L.tells link.old }
     ensures few { result ≤ 16 }
-    ensures stands { (line : List ℕ) → IsGiven given.now line → (p : Production)
-        (history : List Act) → StandsFor F.stands_for p console.old history
-        → StandsFor F.stands_for p console.new (acts_after p.show (reading_of line) history) }
-    ensures carried_out { (line : List ℕ) → IsGiven given.now line → (p : Production)
-        (history : List Act) → StandsFor F.stands_for p console.old history
-        → B.tells booth.new → L.tells link.new
+    ensures stands { (line : List ℕ) → IsGiven given.now line
+        → OfEach F.stands_for console.old (λ p history.
+        StandsFor F.stands_for p console.new (acts_after p.show (reading_of line) history)) }
+    ensures carried_out { (line : List ℕ) → IsGiven given.now line
+        → OfEach F.stands_for console.old (λ p history. B.tells booth.new → L.tells link.new
         → BoothCarriesOut p history line (trace_of (B.state booth.old) (L.offered link.old))
-        (trace_of (B.state booth.new) (L.offered link.new)) result }
+        (trace_of (B.state booth.new) (L.offered link.new)) result) }
 {
     let _ = booth.keep(given.text.as_slice(), link);
     let place = console.place();

@@ -1,11 +1,11 @@
-ghost use Rattle.std.specs.Prelude.{◌≡◌, List};
+ghost use Rattle.std.specs.Prelude.{◌≡◌};
 ghost use Rattle.console.specs.Streams.{Production};
-ghost use Rattle.live_input.specs.Night.{Happening, now};
+ghost use Rattle.live_input.specs.Night.{now};
 ghost use Rattle.cmd_live.specs.Beginning.{HasTakenUp, IsReady};
 ghost use Rattle.cmd_live.specs.Following.{HasFollowed};
 ghost use Rattle.cmd_live.specs.Night.{history_at};
 ghost use Rattle.cmd_live.specs.Shown.{shown_place};
-ghost use Rattle.cmd_live.specs.Stands.{ShowsText, StandsFor};
+ghost use Rattle.cmd_live.specs.Stands.{OfEach, ShowsText};
 
 use crate::booth::Booth;
 use crate::main_console::{Led, MainConsole};
@@ -60,10 +60,9 @@ impl<F: Fader> Night<F> {
     /// link.
     pub fn show_place<B: Booth, L: Link>(&self, booth: &mut B, link: &L)
         ensures told { B.tells booth.new → B.tells booth.old }
-        ensures shows { (p : Production) (happened : List Happening)
-            → StandsFor F.stands_for p self.now happened → B.tells booth.new
+        ensures shows { OfEach F.stands_for self.now (λ p happened. B.tells booth.new
             → ShowsText (L.offered link.now) (B.state booth.old) (B.state booth.new)
-            (shown_place p.show (history_at p.show happened) (now happened)) }
+            (shown_place p.show (history_at p.show happened) (now happened))) }
     {
         place::show_place(&self.console, self.moment(), booth, link);
     }

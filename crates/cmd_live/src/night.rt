@@ -1,11 +1,9 @@
 ghost use Rattle.std.specs.Prelude.{◌≡◌, ◌≤◌, ◌⊎◌, List, [], length, IfOk, OnErr, OnOk, true};
-ghost use Rattle.desk.specs.Played.{Act};
-ghost use Rattle.console.specs.Streams.{Production};
 ghost use Rattle.live_input.specs.Night.{Happening, answers, ignored_keys, is_over};
 ghost use Rattle.live_input.specs.Stands as live;
 ghost use Rattle.cmd_live.specs.Night.{trace_of};
 ghost use Rattle.cmd_live.specs.Booth.{fails, waits_until};
-ghost use Rattle.cmd_live.specs.Stands.{BreaksOff, GoesOn, StandsFor, Waits, WearsOut};
+ghost use Rattle.cmd_live.specs.Stands.{BreaksOff, GoesOn, HasHistory, OfEach, Waits, WearsOut};
 ghost use Rattle.cmd_live.specs.Stands.{told_keys};
 
 use crate::booth::{Booth, Heard};
@@ -31,8 +29,7 @@ pub struct Night<F: Fader> {
 impl<F: Fader> Night<F> {
     // Does what is next, and answers whether the night is over.
     fn go_on<B: Booth, L: Link>(&mut self, booth: &mut B, link: &mut L) -> Result<bool, LinkFault>
-        requires real { (p : Production) × (happened : List Happening)
-            × StandsFor F.stands_for p self.old happened }
+        requires real { HasHistory F.stands_for self.old }
         ensures told_booth { B.tells booth.new → B.tells booth.old }
         ensures told_link { L.tells link.new → L.tells link.old }
         ensures goes { OnOk result ((goes : GoesOn F.stands_for
@@ -43,9 +40,8 @@ impl<F: Fader> Night<F> {
             (B.tells booth.new × L.tells link.new) self.old self.new
             (trace_of (B.state booth.old) (L.offered link.old))
             (trace_of (B.state booth.new) (L.offered link.new))) }
-        ensures over { IfOk result (λ over. over ≡ true → (p : Production)
-            (happened : List Happening) → StandsFor F.stands_for p self.new happened
-            → is_over (answers happened) ≡ true) }
+        ensures over { IfOk result (λ over. over ≡ true
+            → OfEach F.stands_for self.new (λ p happened. is_over (answers happened) ≡ true)) }
     {
         let moment = booth.moment()?;
         match self.input.next(moment) {
@@ -108,8 +104,7 @@ impl<F: Fader> Night<F> {
         booth: &mut B,
         link: &mut L,
     ) -> Result<(), LinkFault>
-        requires real { (p : Production) × (happened : List Happening)
-            × StandsFor F.stands_for p self.old happened }
+        requires real { HasHistory F.stands_for self.old }
         ensures told_booth { B.tells booth.new → B.tells booth.old }
         ensures told_link { L.tells link.new → L.tells link.old }
         ensures goes { OnOk result (GoesOn F.stands_for (B.tells booth.new × L.tells link.new)
@@ -122,8 +117,8 @@ impl<F: Fader> Night<F> {
             ⊎ WearsOut F.stands_for (B.tells booth.new × L.tells link.new) self.old self.new
             (trace_of (B.state booth.old) (L.offered link.old))
             (trace_of (B.state booth.new) (L.offered link.new))) }
-        ensures over { OnOk result ((p : Production) (happened : List Happening)
-            → StandsFor F.stands_for p self.new happened → is_over (answers happened) ≡ true) }
+        ensures over { OnOk result (OfEach F.stands_for self.new (λ p happened.
+            is_over (answers happened) ≡ true)) }
     {
         // One turn a nanosecond would last for 584 years.
         for _turn in 0..u64::MAX {

@@ -1,7 +1,5 @@
-ghost use Rattle.std.specs.Prelude.{◌≡◌, List};
-ghost use Rattle.desk.specs.Played.{Act};
-ghost use Rattle.console.specs.Stands.{StandsFor};
-ghost use Rattle.console.specs.Streams.{Production};
+ghost use Rattle.std.specs.Prelude.{◌≡◌};
+ghost use Rattle.console.specs.Stands.{OfEach};
 ghost use Rattle.cmd_live.specs.Shown as shown;
 ghost use Rattle.cmd_live.specs.Shown.{shown_place};
 ghost use Rattle.cmd_live.specs.Stands.{ShowsText};
@@ -19,10 +17,9 @@ pub fn show_place<F: Fader, B: Booth, L: Link>(
     link: &L,
 )
     ensures told { B.tells booth.new → B.tells booth.old }
-    ensures shows { (p : Production) (history : List Act)
-        → StandsFor F.stands_for p console.now history → B.tells booth.new
+    ensures shows { OfEach F.stands_for console.now (λ p history. B.tells booth.new
         → ShowsText (L.offered link.now) (B.state booth.old) (B.state booth.new)
-        (shown_place p.show history moment) }
+        (shown_place p.show history moment)) }
 {
     let current = console.current();
     let next = console.show().next(current.unwrap_or(0));

@@ -1,8 +1,6 @@
-ghost use Rattle.std.specs.Prelude.{◌≡◌, List};
-ghost use Rattle.console.specs.Streams.{Production};
-ghost use Rattle.live_input.specs.Night.{Happening};
+ghost use Rattle.std.specs.Prelude.{◌≡◌};
 ghost use Rattle.cmd_live.specs.Night.{IsEnd, HasLived, trace_of};
-ghost use Rattle.cmd_live.specs.Stands.{StandsFor};
+ghost use Rattle.cmd_live.specs.Stands.{HasHistory, OfEach};
 
 use crate::booth::Booth;
 use crate::night::Night;
@@ -34,14 +32,13 @@ impl<F: Fader> Night<F> {
         booth: &mut B,
         link: &mut L,
     ) -> Result<(), RunFault>
-        requires real { (p : Production) × (happened : List Happening)
-            × StandsFor F.stands_for p self.old happened }
+        requires real { HasHistory F.stands_for self.old }
         requires none_lost { self.old.lost ≡ 0 }
         ensures ends { IsEnd result }
-        ensures lived { (p : Production) (first : List Happening)
-            → StandsFor F.stands_for p self.old first → B.tells booth.new → L.tells link.new
+        ensures lived { OfEach F.stands_for self.old (λ p first. B.tells booth.new
+            → L.tells link.new
             → HasLived p first passed result (trace_of (B.state booth.old) (L.offered link.old))
-            (trace_of (B.state booth.new) (L.offered link.new)) }
+            (trace_of (B.state booth.new) (L.offered link.new))) }
         ensures told_booth { B.tells booth.new → B.tells booth.old }
         ensures told_link { L.tells link.new → L.tells link.old }
     {

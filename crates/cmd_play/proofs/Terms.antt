@@ -21,13 +21,14 @@ pub use Rattle.desk.specs.declared.answer.Refused.{Refused}
 pub use Rattle.desk.specs.declared.answer.Ticked.{Ticked}
 pub use Rattle.desk.specs.Played.{Act, ticks_since_end, outcome, refusal, tick_answer, is_after_end}
 pub use Rattle.desk.specs.Played.{is_soon, lack_refusal, command_lacks, last_act_moment, last_tick}
-pub use Rattle.desk.specs.Played.{moved_to, moves, own_time, target, time_refusal}
+pub use Rattle.desk.specs.Played.{moved_to, moves, order_at, own_time, target, tick_at}
+pub use Rattle.desk.specs.Played.{time_refusal}
 pub use Rattle.sacn_source.specs.Identity.{Identity}
 pub use Rattle.sacn_source.specs.declared.offered.Offered.{Offered}
 pub use Rattle.sacn_source.specs.declared.offered.Offered.TheVariants.{Quiet}
 pub use Rattle.sacn_source.specs.Offering.{answer_of}
 pub use Rattle.console.specs.Offering.{AreOffered, none, quiet, sent, OffersDues}
-pub use Rattle.console.specs.Streams.{Due, Production, dues_at, tick_at, order_at}
+pub use Rattle.console.specs.Streams.{Due, Production, dues_at}
 pub use Rattle.console.specs.declared.call.Call.{Call}
 pub use Rattle.console.specs.declared.call.Call.TheVariants.{Order, Tick}
 pub use Rattle.console.specs.Spelling.{act_of, reading_of}

@@ -1,5 +1,4 @@
 pub mod Lost
-pub mod History
 pub mod Lines
 pub mod Run
 pub mod Perform

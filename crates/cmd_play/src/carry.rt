@@ -1,7 +1,6 @@
 ghost use Rattle.std.specs.Prelude.{◌≡◌, ◌≤◌};
-ghost use Rattle.console.specs.Stands.{StandsFor};
+ghost use Rattle.console.specs.Stands.{HasHistory, OfEach, StandsFor};
 ghost use Rattle.console.specs.declared.reading.Reading.TheVariants.{At};
-ghost use Rattle.cmd_play.specs.History.{HasHistory, OfEach};
 ghost use Rattle.cmd_play.specs.Run.{IsAnswered, acts_after};
 
 use crate::performance::perform;

@@ -1,7 +1,6 @@
 ghost use Rattle.std.specs.Prelude.{◌≡◌, ◌≤◌, false, OnOk, IfOk, IfErr};
-ghost use Rattle.console.specs.Stands.{StandsFor};
+ghost use Rattle.console.specs.Stands.{HasHistory, OfEach, StandsFor};
 ghost use Rattle.console.specs.Spelling.{is_malformed, reading_of};
-ghost use Rattle.cmd_play.specs.History.{HasHistory, OfEach};
 ghost use Rattle.cmd_play.specs.Run.{CarriesOut, emission, acts_after};
 ghost use Rattle.cmd_play.specs.Stage.{EndsPlayAt, LeavesLine};
 

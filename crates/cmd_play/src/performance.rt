@@ -1,9 +1,8 @@
 ghost use Rattle.std.specs.Prelude.{◌≡◌, ◌≤◌, count_by};
 ghost use Rattle.playback.specs.Played.{current_after};
 ghost use Rattle.desk.specs.Played.{moves};
-ghost use Rattle.console.specs.Stands.{StandsFor};
+ghost use Rattle.console.specs.Stands.{HasHistory, OfEach, StandsFor};
 ghost use Rattle.console.specs.declared.reading.Reading.TheVariants.{At};
-ghost use Rattle.cmd_play.specs.History.{HasHistory, OfEach};
 ghost use Rattle.cmd_play.specs.Lost.{is_lost};
 ghost use Rattle.cmd_play.specs.Perform.{Performs, lost_of, text_of_answer};
 ghost use Rattle.cmd_play.specs.Run.{acts_after};

@@ -13,7 +13,7 @@ use Rattle.desk.specs.declared.command.Command.{Command}
 use Rattle.desk.specs.DeskState.{DeskState}
 use Rattle.desk.specs.Meaning.{universe_numbers}
 use Rattle.desk.specs.Played.{Act, Call, ticks_since_end, ended_by, last_tick, outcome, refusal}
-use Rattle.desk.specs.Played.{tick_answer}
+use Rattle.desk.specs.Played.{order_at, tick_answer, tick_at}
 use Rattle.desk.specs.Stands as desk
 use Rattle.sacn_source.specs.Identity.{Identity}
 use Rattle.sacn_source.specs.Kept.{Lane}
@@ -24,7 +24,7 @@ use Rattle.console.specs.ConsoleState.{ConsoleState}
 use Rattle.console.specs.Offering.{AreOffered, none, quiet, sent, OffersDues}
 use Rattle.console.specs.Stands.{HasStreams, IsMidTick, StandsFor}
 use Rattle.console.proofs.Streams.{ended_same}
-use Rattle.console.specs.Streams.{Due, Production, offers_of, order_at, tick_at, universes_of}
+use Rattle.console.specs.Streams.{Due, Production, offers_of, universes_of}
 
 -- ---- what the link is offered
 

@@ -6,8 +6,7 @@ use Rattle.ascii_text.specs.Forms.{same_word, moment_of, cue_number_of, level_of
 use Rattle.desk.specs.declared.command.Command.{Command}
 use Rattle.desk.specs.declared.command.Command.TheVariants.{Go, Back, Goto, GotoIn, Sub}
 use Rattle.desk.specs.declared.command.Command.TheVariants.{Group, Master, End}
-use Rattle.desk.specs.Played.{Act}
-use Rattle.console.specs.Streams.{order_at, tick_at}
+use Rattle.desk.specs.Played.{Act, order_at, tick_at}
 use Rattle.console.specs.declared.call.Call.{Call}
 use Rattle.console.specs.declared.call.Call.TheVariants.{Order, Tick}
 use Rattle.console.specs.declared.reading.Reading.{Reading}

@@ -14,13 +14,6 @@ pub record Production : Type 0 where
   pub base : ℕ
   pub source : Identity
 
--- a tick, and a command, at their moments
-abbrev pub tick_at : ℕ → Act
-tick_at moment = record { moment = moment; call = tick }
-
-abbrev pub order_at : ℕ → Command → Act
-order_at moment command = record { moment = moment; call = order command }
-
 -- the universes, ascending
 abbrev pub universes_of : Production → List ℕ
 universes_of production = universe_numbers production.show.patch production.base

@@ -7,12 +7,12 @@ ghost use Rattle.patch.specs.declared.fault.RigFault.TheVariants.{Universe};
 ghost use Rattle.playback.specs.Placed.{IsPlaceAfter};
 ghost use Rattle.playback.specs.Played.{current_after};
 ghost use Rattle.masters.specs.Settings as masters_stand;
-ghost use Rattle.desk.specs.Played.{Act, ticks_since_end, moves, outcome, refusal, settings};
-ghost use Rattle.desk.specs.Played.{tick_answer};
+ghost use Rattle.desk.specs.Played.{moves, order_at, outcome, refusal, settings, tick_answer};
+ghost use Rattle.desk.specs.Played.{tick_at, ticks_since_end};
 ghost use Rattle.console.specs.ConsoleState.{ConsoleState};
 ghost use Rattle.console.specs.Offering.{OffersDues as OffersTo};
-ghost use Rattle.console.specs.Stands.{StandsFor};
-ghost use Rattle.console.specs.Streams.{Production, dues_at, order_at, tick_at};
+ghost use Rattle.console.specs.Stands.{HasHistory, Leads, OfEach, StandsFor};
+ghost use Rattle.console.specs.Streams.{dues_at};
 
 use crate::offers::Offers;
 use crate::tick::offer_all;
@@ -83,12 +83,9 @@ impl<F: Fader> Console<F> {
     ///
     /// As [`Desk::command`]; then nothing changed.
     pub fn command(&mut self, moment: u64, command: Command) -> Result<(), Refused>
-        ensures answer { (production : Production) (history : List Act)
-            → StandsFor F.stands_for production self.old history
-            → result ≡ outcome (refusal production.show history (order_at moment command)) tt }
-        ensures stands { OnOk result ((production : Production) (history : List Act)
-            → StandsFor F.stands_for production self.old history
-            → StandsFor F.stands_for production self.new (order_at moment command ∷ history)) }
+        ensures answer { OfEach F.stands_for self.old (λ production history.
+            result ≡ outcome (refusal production.show history (order_at moment command)) tt) }
+        ensures stands { OnOk result (Leads F.stands_for (order_at moment command) self.old self.new) }
         ensures unchanged { OnErr result (self.new ≡ self.old) }
     {
         self.desk.command(moment, command)
@@ -104,21 +101,16 @@ impl<F: Fader> Console<F> {
     ///
     /// As [`Desk::tick`]; then nothing changed, and nothing was offered.
     pub fn tick<L: Link>(&mut self, moment: u64, link: &mut L) -> Result<(Ticked, Offers), Refused>
-        requires real { (production : Production) × (history : List Act)
-            × StandsFor F.stands_for production self.old history }
-        ensures answer { (production : Production) (history : List Act)
-            → StandsFor F.stands_for production self.old history
-            → MatchResult result
+        requires real { HasHistory F.stands_for self.old }
+        ensures answer { OfEach F.stands_for self.old (λ production history. MatchResult result
             (λ answer. (refusal production.show history (tick_at moment) ≡ None)
             × (answer.0 ≡ tick_answer (ticks_since_end history)))
-            (λ refused. refusal production.show history (tick_at moment) ≡ Some refused) }
-        ensures stands { OnOk result ((production : Production) (history : List Act)
-            → StandsFor F.stands_for production self.old history
-            → StandsFor F.stands_for production self.new (tick_at moment ∷ history)) }
-        ensures offered { IfOk result (λ answer. (production : Production) (history : List Act)
-            → StandsFor F.stands_for production self.old history → L.tells link.new
+            (λ refused. refusal production.show history (tick_at moment) ≡ Some refused)) }
+        ensures stands { OnOk result (Leads F.stands_for (tick_at moment) self.old self.new) }
+        ensures offered { IfOk result (λ answer. OfEach F.stands_for self.old (λ production history.
+            L.tells link.new
             → OffersTo production.source (dues_at production history moment) answer.1
-            (L.offered link.old) (L.offered link.new)) }
+            (L.offered link.old) (L.offered link.new))) }
         ensures told { L.tells link.new → L.tells link.old }
         ensures unchanged { OnErr result (self.new ≡ self.old) }
         ensures quiet { OnErr result (L.tells link.new → L.offered link.new ≡ L.offered link.old) }
@@ -130,37 +122,33 @@ impl<F: Fader> Console<F> {
 
     /// The current cue, in thousandths: that of the latest move.
     pub fn current(&self) -> Option<u32>
-        ensures { (production : Production) (history : List Act)
-            → StandsFor F.stands_for production self.now history
-            → result ≡ current_after (moves production.show history) }
+        ensures { OfEach F.stands_for self.now (λ production history.
+            result ≡ current_after (moves production.show history)) }
     {
         self.desk.current()
     }
 
     /// The place in the cue list: the current cue, and when the next one follows it by itself.
     pub fn place(&self) -> Place
-        ensures { (production : Production) (history : List Act)
-            → StandsFor F.stands_for production self.now history
-            → IsPlaceAfter production.show result (moves production.show history)
-            (is_some (ticks_since_end history)) }
+        ensures { OfEach F.stands_for self.now (λ production history.
+            IsPlaceAfter production.show result (moves production.show history)
+            (is_some (ticks_since_end history))) }
     {
         self.desk.place()
     }
 
     /// The masters, as the commands so far set them.
     pub fn masters(&self) -> &Masters
-        ensures { (production : Production) (history : List Act)
-            → StandsFor F.stands_for production self.now history
-            → masters_stand.StandsFor result.now (settings history) }
+        ensures { OfEach F.stands_for self.now (λ production history.
+            masters_stand.StandsFor result.now (settings history)) }
     {
         self.desk.masters()
     }
 
     /// The show that is played.
     pub fn show(&self) -> &Show
-        ensures { (production : Production) (history : List Act)
-            → StandsFor F.stands_for production self.now history
-            → result.now ≡ production.show }
+        ensures { OfEach F.stands_for self.now (λ production history.
+            result.now ≡ production.show) }
     {
         self.desk.show()
     }

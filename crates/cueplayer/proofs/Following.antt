@@ -7,7 +7,8 @@ use Rattle.cmd_live.specs.Following.{Follows}
 use Rattle.cmd_live.specs.declared.follow.Pause.{Pause}
 use Rattle.cmd_live.specs.declared.main_console.Led.{Led}
 use Rattle.cmd_live.specs.declared.night.Night.{Night}
-use Rattle.cueplayer.specs.Opening.{CanFollow, IsPlayable}
+use Rattle.cmd_live.specs.Stands.{IsPlayable}
+use Rattle.cueplayer.specs.Opening.{CanFollow}
 use Rattle.live_input.specs.Recall.{recall_of}
 
 pub follows_on : {F : Type 0} (stands_for : F → List Start → Type 0) (tells : Type 0)

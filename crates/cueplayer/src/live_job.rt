@@ -1,5 +1,5 @@
 ghost use Rattle.std.specs.Prelude.{◌≤◌};
-ghost use Rattle.cueplayer.specs.Opening.{IsPlayable};
+ghost use Rattle.cmd_live.specs.Stands.{IsPlayable};
 
 use crate::follow_job::play_following;
 use crate::jobs::{identity, link_of, night_end};

@@ -1,8 +1,8 @@
 ghost use Rattle.std.specs.Prelude.{IfOk, []};
 ghost use Rattle.console.specs.Streams.{Production};
 ghost use Rattle.cmd_live.specs.Beginning.{IsReady};
-ghost use Rattle.cmd_live.specs.Stands.{StandsFor};
-ghost use Rattle.cueplayer.specs.Opening.{CanFollow, IsPlayable};
+ghost use Rattle.cmd_live.specs.Stands.{IsPlayable, StandsFor};
+ghost use Rattle.cueplayer.specs.Opening.{CanFollow};
 
 use crate::live_job::{LiveWords, Playbill};
 use arrayvec::ArrayString;

@@ -1,5 +1,6 @@
 ghost use Rattle.std.specs.Prelude.{OnOk};
-ghost use Rattle.cueplayer.specs.Opening.{CanFollow, IsPlayable};
+ghost use Rattle.cmd_live.specs.Stands.{IsPlayable};
+ghost use Rattle.cueplayer.specs.Opening.{CanFollow};
 
 use crate::device_failure::of_record;
 use crate::live_devices::LiveDevices;

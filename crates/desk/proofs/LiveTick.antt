@@ -108,7 +108,7 @@ module _ {F : Type 0} {fader_stands_for : F → List Start → Type 0} {show : T
         ap (λ ms. merged_after show (settings history) channel
         (playback_level show ms channel at)) same
         ∙ ap (merged_after show (settings history) channel)
-        (but.others show (moves show history) false channel at not_stopped is lacks (omega arith))
+        (but.others show (moves show history) false not_stopped channel at is lacks (omega arith))
 
     -- each other channel has the level that it had
     pub others_stay : (channel : ℕ) → IsTrue (is_channel channel) → ¬ Contains channels channel

@@ -30,6 +30,12 @@ pub record Act : Type 0 where
   pub moment : ℕ
   pub call : Call
 
+abbrev pub order_at : ℕ → Command → Act
+order_at moment command = record { moment = moment; call = order command }
+
+abbrev pub tick_at : ℕ → Act
+tick_at moment = record { moment = moment; call = tick }
+
 -- ---- what a history leaves
 
 -- the moment of the last call; 0 before the first

@@ -1,5 +1,5 @@
 -- What a desk keeps, against its history.
-use Rattle.std.specs.Prelude.{◌≡◌, ◌<◌, ℕ, Bool, true, false, IsTrue, List, Some, is_some}
+use Rattle.std.specs.Prelude.{◌≡◌, ◌<◌, ℕ, Bool, true, false, IsTrue, List, ◌∷◌, Some, is_some}
 use Rattle.std.specs.Prelude.{slice_get}
 use Rattle.show.specs.Numbers.{is_channel}
 use Rattle.show.specs.Tables.{Tables}
@@ -42,3 +42,16 @@ pub record StandsFor {F : Type 0} (fader_stands_for : F → List Start → Type 
   pub kept : IsTrue desk.is_kept
       → AreDrawn show.patch (channel_level show history desk.last_moment)
       (grand_after (settings history)) desk.frames
+
+-- this holds of each history that a desk stands for, with its show and its base
+abbrev pub OfEach : {F : Type 0} → (F → List Start → Type 0) → DeskState F
+    → (Tables → ℕ → List Act → Type 0) → Type 0
+OfEach fader_stands_for desk fact = (show : Tables) (base : ℕ) (history : List Act)
+    → StandsFor fader_stands_for show base desk history → fact show base history
+
+-- an act leads from one desk to another: the new one stands for each history of the old one, and
+-- the act behind it
+abbrev pub Leads : {F : Type 0} → (F → List Start → Type 0) → Act → DeskState F → DeskState F
+    → Type 0
+Leads fader_stands_for act old new = OfEach fader_stands_for old
+    (λ show base history. StandsFor fader_stands_for show base new (act ∷ history))

@@ -12,14 +12,14 @@ ghost use Rattle.playback.specs.Stands as playback_stands;
 ghost use Rattle.masters.specs.Settings as masters_stand;
 ghost use Rattle.patch.specs.Frame.{is_universe, is_base, frames_in};
 ghost use Rattle.patch.specs.declared.fault.RigFault.TheVariants.{Universe};
-ghost use Rattle.desk.specs.Played.{Act, order, tick, ticks_since_end, ended_by, moves, settings};
+ghost use Rattle.desk.specs.Played.{Act, order, order_at, tick, tick_at, ticks_since_end, ended_by, moves, settings};
 ghost use Rattle.desk.specs.Played.{time_refusal, is_after_end, is_soon, lack_refusal, refusal};
 ghost use Rattle.desk.specs.Played.{outcome, tick_answer};
 ghost use Rattle.desk.specs.DeskState.{DeskState};
 ghost use Rattle.desk.specs.Inside.{IsDesk, are_current, are_kept};
 ghost use Rattle.desk.specs.Meaning.{latest_frame, universe_numbers};
-ghost use Rattle.desk.specs.Stands.{StandsFor};
-ghost use Rattle.desk.specs.Ticks.{Ticks, IsKeptBut};
+ghost use Rattle.desk.specs.Stands.{Leads, OfEach, StandsFor};
+ghost use Rattle.desk.specs.Ticks.{IsKeptBut};
 
 use crate::answer::{Refused, Ticked};
 use crate::command::Command;
@@ -153,14 +153,9 @@ impl<F: Fader> Desk<F> {
     /// The first of `Backwards`, `MomentTooLarge`, `Ended`, `AtEnd`, `AtStart`, `NoCue`, `NoSub`
     /// and `NoGroup` that applies; then nothing changed.
     pub fn command(&mut self, moment: u64, command: Command) -> Result<(), Refused>
-        ensures answer { (show : Tables) (base : ℕ) (history : List Act)
-            → StandsFor F.stands_for show base self.old history
-            → let act : Act = record { moment = moment; call = order command } in
-            result ≡ outcome (refusal show history act) tt }
-        ensures stands { OnOk result ((show : Tables) (base : ℕ) (history : List Act)
-            → StandsFor F.stands_for show base self.old history
-            → let act : Act = record { moment = moment; call = order command } in
-            StandsFor F.stands_for show base self.new (act ∷ history)) }
+        ensures answer { OfEach F.stands_for self.old (λ show base history.
+            result ≡ outcome (refusal show history (order_at moment command)) tt) }
+        ensures stands { OnOk result (Leads F.stands_for (order_at moment command) self.old self.new) }
         ensures unchanged { OnErr result (self.new ≡ self.old) }
     {
         if let Some(refused) = time_refusal(self.last_moment, moment, self.ended.is_some(), false) {
@@ -187,14 +182,9 @@ impl<F: Fader> Desk<F> {
     /// The first of `Backwards`, `MomentTooLarge`, `Ended` and `TooSoon` that applies; then nothing
     /// changed.
     pub fn tick(&mut self, moment: u64) -> Result<Ticked, Refused>
-        ensures answer { (show : Tables) (base : ℕ) (history : List Act)
-            → StandsFor F.stands_for show base self.old history
-            → let act : Act = record { moment = moment; call = tick } in
-            result ≡ outcome (refusal show history act) (tick_answer (ticks_since_end history)) }
-        ensures stands { OnOk result ((show : Tables) (base : ℕ) (history : List Act)
-            → StandsFor F.stands_for show base self.old history
-            → let act : Act = record { moment = moment; call = tick } in
-            StandsFor F.stands_for show base self.new (act ∷ history)) }
+        ensures answer { OfEach F.stands_for self.old (λ show base history. result
+            ≡ outcome (refusal show history (tick_at moment)) (tick_answer (ticks_since_end history))) }
+        ensures stands { OnOk result (Leads F.stands_for (tick_at moment) self.old self.new) }
         ensures unchanged { OnErr result (self.new ≡ self.old) }
     {
         let over = is_over(self.ended);
@@ -218,7 +208,7 @@ impl<F: Fader> Desk<F> {
         requires not_before { self.old.last_moment ≤ moment }
         requires below { moment < 2 ^ 48 }
         requires live { self.old.ended ≡ None }
-        ensures { Ticks F.stands_for self.old self.new moment }
+        ensures { Leads F.stands_for (tick_at moment) self.old self.new }
     {
         if self.is_still(moment) {
             self.tick_still(moment);
@@ -241,7 +231,7 @@ impl<F: Fader> Desk<F> {
         requires not_before { self.old.last_moment ≤ moment }
         requires below { moment < 2 ^ 48 }
         requires live { self.old.ended ≡ None }
-        ensures { Ticks F.stands_for self.old self.new moment }
+        ensures { Leads F.stands_for (tick_at moment) self.old self.new }
     {
         self.keep_floors();
         let mut channels = ArrayVec::<u16, FEW>::new();
@@ -258,9 +248,8 @@ impl<F: Fader> Desk<F> {
         ensures floors { IsTrue self.new.are_floors }
         ensures rest { self.new
             ≡ record self.old { floors = self.new.floors; are_floors = self.new.are_floors } }
-        ensures stands { (show : Tables) (base : ℕ) (history : List Act)
-            → StandsFor F.stands_for show base self.old history
-            → StandsFor F.stands_for show base self.new history }
+        ensures stands { OfEach F.stands_for self.old (λ show base history.
+            StandsFor F.stands_for show base self.new history) }
     {
         if let FloorState::Stale = self.floor_state {
             self.masters.write_floors(&self.show, &mut self.floors);
@@ -288,7 +277,7 @@ impl<F: Fader> Desk<F> {
         requires not_before { self.old.last_moment ≤ moment }
         requires live { self.old.ended ≡ None }
         requires kept { IsKeptBut F.stands_for F.latest self.old moment [] }
-        ensures { Ticks F.stands_for self.old self.new moment }
+        ensures { Leads F.stands_for (tick_at moment) self.old self.new }
     {
         self.last_moment = moment;
         self.last_tick = Some(moment);
@@ -302,7 +291,7 @@ impl<F: Fader> Desk<F> {
         requires floors { IsTrue self.old.are_floors }
         requires in_range { All (λ channel. IsTrue (is_channel channel)) channels.now }
         requires kept { IsKeptBut F.stands_for F.latest self.old moment channels.now }
-        ensures { Ticks F.stands_for self.old self.new moment }
+        ensures { Leads F.stands_for (tick_at moment) self.old self.new }
     {
         self.playback.advance(&self.show, moment);
         redraw_merged(
@@ -327,7 +316,7 @@ impl<F: Fader> Desk<F> {
         requires below { moment < 2 ^ 48 }
         requires live { self.old.ended ≡ None }
         requires floors { IsTrue self.old.are_floors }
-        ensures { Ticks F.stands_for self.old self.new moment }
+        ensures { Leads F.stands_for (tick_at moment) self.old self.new }
     {
         self.playback.advance(&self.show, moment);
         draw_merged(
@@ -352,7 +341,7 @@ impl<F: Fader> Desk<F> {
         requires not_before { self.old.last_moment ≤ moment }
         requires ending { self.old.ended ≡ Some (ticks - 1) }
         requires from_one { 1 ≤ ticks }
-        ensures { Ticks F.stands_for self.old self.new moment }
+        ensures { Leads F.stands_for (tick_at moment) self.old self.new }
     {
         darken(&mut self.slots);
         self.frame_state = FrameState::Stale;
@@ -376,36 +365,32 @@ impl<F: Fader> Desk<F> {
     /// and from the first after End on.
     pub fn slots(&self, universe: u16) -> &Frame
         requires { Contains (universe_numbers self.now.show.patch self.now.base) universe }
-        ensures { (show : Tables) (base : ℕ) (history : List Act)
-            → StandsFor F.stands_for show base self.now history
-            → result.now ≡ latest_frame show history (universe - base) }
+        ensures { OfEach F.stands_for self.now (λ show base history.
+            result.now ≡ latest_frame show history (universe - base)) }
     {
         &self.slots.as_chunks().0[usize::from(universe - self.rig.base())]
     }
 
     /// The current cue, in thousandths: that of the latest move.
     pub fn current(&self) -> Option<u32>
-        ensures { (show : Tables) (base : ℕ) (history : List Act)
-            → StandsFor F.stands_for show base self.now history
-            → result ≡ current_after (moves show history) }
+        ensures { OfEach F.stands_for self.now (λ show base history.
+            result ≡ current_after (moves show history)) }
     {
         self.playback.current()
     }
 
     /// The place in the cue list: the current cue, and when the next one follows it by itself.
     pub fn place(&self) -> Place
-        ensures { (show : Tables) (base : ℕ) (history : List Act)
-            → StandsFor F.stands_for show base self.now history
-            → IsPlaceAfter show result (moves show history) (is_some (ticks_since_end history)) }
+        ensures { OfEach F.stands_for self.now (λ show base history.
+            IsPlaceAfter show result (moves show history) (is_some (ticks_since_end history))) }
     {
         self.playback.place()
     }
 
     /// The masters, as the commands so far set them.
     pub fn masters(&self) -> &Masters
-        ensures { (show : Tables) (base : ℕ) (history : List Act)
-            → StandsFor F.stands_for show base self.now history
-            → masters_stand.StandsFor result.now (settings history) }
+        ensures { OfEach F.stands_for self.now (λ show base history.
+            masters_stand.StandsFor result.now (settings history)) }
     {
         &self.masters
     }
@@ -490,13 +475,12 @@ fn carry_out<F: Fader>(
     ensures playback { OnOk result ((history : List Act) → ticks_since_end history ≡ None
         → playback_stands.StandsFor F.stands_for show.now playback.old (moves show.now history)
         false
-        → let act : Act = record { moment = moment; call = order command } in
+        → let after : List Act = order_at moment command ∷ history in
         playback_stands.StandsFor F.stands_for show.now playback.new
-        (moves show.now (act ∷ history)) (is_some (ticks_since_end (act ∷ history)))) }
+        (moves show.now after) (is_some (ticks_since_end after))) }
     ensures masters { OnOk result ((history : List Act)
         → masters_stand.StandsFor masters.old (settings history)
-        → let act : Act = record { moment = moment; call = order command } in
-        masters_stand.StandsFor masters.new (settings (act ∷ history))) }
+        → masters_stand.StandsFor masters.new (settings (order_at moment command ∷ history))) }
     ensures not_ahead { F.latest playback.new.fader ≤ moment }
     ensures playback_unchanged { OnErr result (playback.new ≡ playback.old) }
     ensures masters_unchanged { OnErr result (masters.new ≡ masters.old) }

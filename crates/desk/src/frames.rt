@@ -62,12 +62,11 @@ fn merge_levels<F: Fader>(levels: &mut [u16], playback: &Playback<F>, floors: &[
     requires levels { length levels.old ≡ 4096 }
     requires floors { length floors.now ≡ 4096 }
     requires full { AreLevels floors.now }
-    ensures merged { (show : Tables) (moves : List Move) (stopped : Bool)
-        → playback_stands.StandsFor F.stands_for show playback.now moves stopped
-        → (channel : ℕ) → IsTrue (is_channel channel)
+    ensures merged { playback_stands.OfEach F.stands_for playback.now (λ show moves stopped.
+        (channel : ℕ) → IsTrue (is_channel channel)
         → listed_level levels.new channel
         ≡ max (playback_level show moves channel (F.latest playback.now.fader))
-        (listed_level floors.now channel) }
+        (listed_level floors.now channel)) }
     ensures full { AreLevels levels.new }
 {
     match playback.levels() {
@@ -143,11 +142,10 @@ fn merge_some<F: Fader>(
     requires in_range { All (λ channel. IsTrue (is_channel channel)) channels.now }
     requires floors { length floors.now ≡ 4096 }
     requires floors_full { AreLevels floors.now }
-    ensures merged { (show : Tables) (moves : List Move) (stopped : Bool)
-        → playback_stands.StandsFor F.stands_for show playback.now moves stopped
-        → All (λ channel. listed_level levels.new channel
+    ensures merged { playback_stands.OfEach F.stands_for playback.now (λ show moves stopped.
+        All (λ channel. listed_level levels.new channel
         ≡ max (playback_level show moves channel (F.latest playback.now.fader))
-        (listed_level floors.now channel)) channels.now }
+        (listed_level floors.now channel)) channels.now) }
     ensures full { AreLevels levels.new }
 {
     for channel in channels {

@@ -37,6 +37,12 @@ pub record StandsFor (kept : InputState) (happenings : List Happening) : Type 0 
   pub keys_is : kept.keys ≡ ignored_keys (answers happenings)
   pub leaves : Leaves kept.progress (answers happenings)
 
+-- this leads from one input to another: the new one stands for what happened to the old one, and
+-- this behind it
+abbrev pub Leads : Happening → InputState → InputState → Type 0
+Leads happening old new = (happened : List Happening) → StandsFor old happened
+    → StandsFor new (happening ∷ happened)
+
 -- a line of a record was given again behind these happenings
 pub record Recalls (old new : InputState) (line : List ℕ) (given : GivenLine)
     (happened : List Happening) : Type 0 where

@@ -2,7 +2,7 @@ ghost use Rattle.std.specs.Prelude.{◌≡◌, ◌≤◌, ◌<◌, ◌^◌, ℕ,
 ghost use Rattle.live_input.specs.Night.{Happening, came, closed, asked, answer_to, answers};
 ghost use Rattle.live_input.specs.Night.{ignored_keys, is_over, now};
 ghost use Rattle.live_input.specs.Recall.{IsRecalled, typed_again};
-ghost use Rattle.live_input.specs.Stands.{Recalls, StandsFor};
+ghost use Rattle.live_input.specs.Stands.{Leads, Recalls, StandsFor};
 ghost use Rattle.live_input.specs.Told.{Tells};
 ghost use Rattle.live_input.specs.declared.given.Given.TheVariants.{Until};
 
@@ -84,8 +84,7 @@ impl LiveInput {
     pub fn take_bytes(&mut self, bytes: &[u8])
         requires taken { self.old.typed.unread ≡ [] }
         requires short { length bytes.now ≤ 4096 }
-        ensures { (happenings : List Happening) → StandsFor self.old happenings
-            → StandsFor self.new (came bytes.now ∷ happenings) }
+        ensures { Leads (came bytes.now) self.old self.new }
     {
         self.typed.extend(bytes);
     }
@@ -95,8 +94,7 @@ impl LiveInput {
     #[tactic(auto, using(crate::proofs::TypedLemmas::more_typed))]
     pub fn close(&mut self, ends: bool)
         requires taken { self.old.typed.unread ≡ [] }
-        ensures { (happenings : List Happening) → StandsFor self.old happenings
-            → StandsFor self.new (closed ends ∷ happenings) }
+        ensures { Leads (closed ends) self.old self.new }
     {
         self.typed.extend(b"\n");
         self.ends = ends || self.ends;
@@ -108,8 +106,7 @@ impl LiveInput {
     pub fn next(&mut self, moment: u64) -> Given
         ensures tells { (happenings : List Happening) → StandsFor self.old happenings
             → Tells result (answer_to happenings moment) }
-        ensures stands { (happenings : List Happening) → StandsFor self.old happenings
-            → StandsFor self.new (asked moment ∷ happenings) }
+        ensures stands { Leads (asked moment) self.old self.new }
         ensures taken { (until : ℕ) → result ≡ Until until → self.new.typed.unread ≡ [] }
     {
         self.now = self.now.max(moment.min(LATEST));

@@ -45,12 +45,17 @@ pub record StandsFor (masters : Bytes) (settings : List Setting) : Type 0 where
       → slice_index masters.groups n ≡ group_after settings n
   pub grand_is : masters.grand ≡ grand_after settings
 
+-- a setting leads from one list of bytes to another: the new one is what the settings of the old
+-- one and this behind them leave
+abbrev pub Leads : Setting → Bytes → Bytes → Type 0
+Leads setting old new = (settings : List Setting) → StandsFor old settings
+    → StandsFor new (setting ∷ settings)
+
 -- the master of record n was to be set: where the record is there, what was asked for is the newest
 -- setting; where it is not, the call is refused for that, and nothing changed
 pub record Sets {V X : Type 0} (records : map.FinMap nat_cmp V) (n : ℕ) (absence : NoMaster)
     (setting : Setting) (before after : Bytes) (result : Result X NoMaster) : Type 0 where
-  pub stands : OnOk result ((settings : List Setting) → StandsFor before settings
-      → StandsFor after (setting ∷ settings))
+  pub stands : OnOk result (Leads setting before after)
   pub unchanged : OnErr result (after ≡ before)
   pub there : IsOk result ↔ IsTrue (map.contains_key records n)
   pub absent : (result ≡ Err absence) ↔ IsFalse (map.contains_key records n)

@@ -5,7 +5,7 @@ ghost use Rattle.masters.specs.declared.fault.NoMaster.TheVariants.{NoSub, NoGro
 ghost use Rattle.masters.specs.Merged.{merged_after};
 ghost use Rattle.masters.specs.Settings.{Setting, sub_setting, group_setting, grand_setting};
 ghost use Rattle.masters.specs.Settings.{Bytes, grand_after, group_after, sub_after};
-ghost use Rattle.masters.specs.Settings.{Sets, StandsFor};
+ghost use Rattle.masters.specs.Settings.{Leads, Sets, StandsFor};
 ghost use Rattle.masters.specs.Inside.{masters_view, IsMasters};
 
 use crate::fault::NoMaster;
@@ -80,8 +80,7 @@ impl Masters {
 
     /// Sets the grand master.
     pub fn set_grand(&mut self, byte: u8)
-        ensures { (settings : List Setting) → StandsFor self.old settings
-            → StandsFor self.new (grand_setting byte ∷ settings) }
+        ensures { Leads (grand_setting byte) self.old self.new }
     {
         self.grand = byte;
     }

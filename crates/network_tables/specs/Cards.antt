@@ -20,6 +20,6 @@ is_without_link state = bytes_eq state (codes "down") || (bytes_eq state (codes 
     || (bytes_eq state (codes "dormant") || bytes_eq state (codes "notpresent")))
 
 -- how a card is, by its files `flags` and `operstate`; what they do not tell is well
-abbrev pub state_of : List ℕ → List ℕ → CardState
-state_of flags operstate =
+abbrev pub state_by_files : List ℕ → List ℕ → CardState
+state_by_files flags operstate =
     if is_down flags then Down else if is_without_link operstate then NoLink else Up

@@ -17,13 +17,13 @@ behind_names [] name = name
 behind_names (byte ∷ bytes) name = (byte ∷ bytes) ++ codes ", " ++ name
 
 -- where that has no room, it is left out
-abbrev pub with_name : List ℕ → List ℕ → List ℕ
-with_name names name =
+abbrev pub behind_if_room : List ℕ → List ℕ → List ℕ
+behind_if_room names name =
     if nat_le (length (behind_names names name)) 160 then behind_names names name else names
 
 abbrev pub names_with : List ℕ → Option (List ℕ) → List ℕ
 names_with names None = names
-names_with names (Some name) = with_name names name
+names_with names (Some name) = behind_if_room names name
 
 -- and is counted all the same
 abbrev pub count_with : ℕ → Option (List ℕ) → ℕ

@@ -1,5 +1,5 @@
 ghost use Rattle.std.specs.Prelude.{◌≡◌};
-ghost use Rattle.network_tables.specs.Cards.{is_down, is_without_link, state_of};
+ghost use Rattle.network_tables.specs.Cards.{is_down, is_without_link, state_by_files};
 
 use crate::fields::flags as flags_in;
 
@@ -20,7 +20,7 @@ pub enum CardState {
 /// How a card is, by the first lines of its files `flags` and `operstate`. What these do not tell
 /// is well.
 pub fn card_state(flags: &[u8], operstate: &[u8]) -> CardState
-    ensures { result ≡ state_of flags.now operstate.now }
+    ensures { result ≡ state_by_files flags.now operstate.now }
 {
     if is_down(flags) {
         CardState::Down

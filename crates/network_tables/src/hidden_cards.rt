@@ -1,5 +1,5 @@
 ghost use Rattle.std.specs.Prelude.{◌≡◌, []};
-ghost use Rattle.network_tables.specs.HiddenCards.{count_with, hidden_name, names_with, with_name};
+ghost use Rattle.network_tables.specs.HiddenCards.{count_with, hidden_name, names_with, behind_if_room};
 
 use crate::card::CardState;
 use crate::table::Card;
@@ -43,7 +43,7 @@ impl HiddenCards {
     }
 
     fn push(&mut self, name: &str)
-        ensures names { self.new.names.bytes ≡ with_name self.old.names.bytes name.now }
+        ensures names { self.new.names.bytes ≡ behind_if_room self.old.names.bytes name.now }
         ensures count { self.new.count ≡ self.old.count }
     {
         let front = if self.names.is_empty() { "" } else { ", " };

@@ -19,7 +19,7 @@ use Rattle.uuid.proofs.RoundTrips.{parses_hyphenated}
 use Rattle.ascii_text.specs.Forms.{whole_of}
 use Rattle.night_record.specs.Head.{IsHead, head_text, name_of}
 use Rattle.night_record.specs.Reading.{before_comma, behind_comma, is_comma, head_at_places}
-use Rattle.night_record.specs.Reading.{with_name}
+use Rattle.night_record.specs.Reading.{with_name_and_start}
 use Rattle.night_record.specs.Reading.{hex_answer, head_with, show_of, started_of}
 use Rattle.night_record.specs.declared.head.RecordHead.{RecordHead}
 
@@ -95,7 +95,7 @@ started_back started long = rw (eq-eqb (length started) 24 long) refl
 
 named_back : (with_parts : Option (List ℕ) → Option (List ℕ) → Option RecordHead)
     (name started : List ℕ) → length name ≤ 63 → length started ≡ 24
-    → with_name with_parts (name ++ (codes ", started " ++ started))
+    → with_name_and_start with_parts (name ++ (codes ", started " ++ started))
     ≡ with_parts (Some name) (Some started)
 named_back with_parts name started room long =
     let rest : List ℕ = codes ", started " ++ started in

@@ -47,9 +47,9 @@ abbrev pub behind_comma : List ℕ → List ℕ
 behind_comma text = drop 7 (drop (position_or_len is_comma text) text)
 
 -- a name and a moment: all but the last 34 bytes, and what stands behind `, started ` of those
-abbrev pub with_name : (Option (List ℕ) → Option (List ℕ) → Option RecordHead) → List ℕ
+abbrev pub with_name_and_start : (Option (List ℕ) → Option (List ℕ) → Option RecordHead) → List ℕ
     → Option RecordHead
-with_name with_parts text =
+with_name_and_start with_parts text =
     let n = length text - 34 in
     with_parts (name_of (take n text)) (started_of (drop 10 (drop n text)))
 
@@ -60,5 +60,5 @@ head_at_places line =
     let cid = drop 7 (drop 64 digits) in
     let priority = drop 11 (drop 36 cid) in
     let base = behind_comma priority in
-    with_name (head_with (show_of (take 64 digits)) (parsed (take 36 cid))
+    with_name_and_start (head_with (show_of (take 64 digits)) (parsed (take 36 cid))
     (whole_of 255 (before_comma priority)) (whole_of 65535 (before_comma base))) (behind_comma base)

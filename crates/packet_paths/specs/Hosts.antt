@@ -12,8 +12,8 @@ abbrev pub is_multicast : List ℕ → Bool
 is_multicast host = nat_le 224 (slice_index host 0) && nat_le (slice_index host 0) 239
 
 -- one that a universe can have: 239.255 and two numbers
-abbrev pub is_group : List ℕ → Bool
-is_group host = (slice_index host 0 == 239) && (slice_index host 1 == 255)
+abbrev pub is_universe_group : List ℕ → Bool
+is_universe_group host = (slice_index host 0 == 239) && (slice_index host 1 == 255)
 
 -- the place of the path of a host
 abbrev pub path_place : List Path → List ℕ → Option ℕ
@@ -24,7 +24,7 @@ path_place paths host = position (λ path. bytes_eq path.host host) paths
 abbrev pub or_groups : Option ℕ → List Path → List ℕ → Option ℕ
 or_groups (Some place) paths host = Some place
 or_groups None paths host =
-    if is_group host then path_place paths (239 ∷ 255 ∷ 0 ∷ 0 ∷ []) else None
+    if is_universe_group host then path_place paths (239 ∷ 255 ∷ 0 ∷ 0 ∷ []) else None
 
 abbrev pub packet_place : List Path → List ℕ → Option ℕ
 packet_place paths host = or_groups (path_place paths host) paths host
@@ -47,9 +47,9 @@ abbrev pub host_path : Path → HostPath
 host_path path = record { source = path.source; state = path.state; silence = path.silence }
 
 -- where there is no path, no route leads there
-abbrev pub state_of : Option Path → PathState
-state_of None = Nowhere
-state_of (Some path) = path.state
+abbrev pub state_of_path : Option Path → PathState
+state_of_path None = Nowhere
+state_of_path (Some path) = path.state
 
 -- no route leads to its host
 abbrev pub is_nowhere : PathState → Bool

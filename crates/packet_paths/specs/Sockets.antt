@@ -23,8 +23,8 @@ abbrev pub is_tie_due : Option ℕ → Option ℕ → Bool → Bool
 is_tie_due card tied is_any_route = not is_any_route && not (same_number card tied)
 
 -- the number of another card
-abbrev pub other_card : ℕ → ℕ
-other_card index = if index == 1 then 2 else 1
+abbrev pub other_index : ℕ → ℕ
+other_index index = if index == 1 then 2 else 1
 
 -- the system refuses a card for a socket that is tied to another one
 abbrev pub is_refused : ErrorKind → Bool

@@ -1,5 +1,5 @@
 ghost use Rattle.std.specs.Prelude.{◌≡◌};
-ghost use Rattle.packet_paths.specs.Hosts.{is_group, is_multicast, packet_place, path_place};
+ghost use Rattle.packet_paths.specs.Hosts.{is_universe_group, is_multicast, packet_place, path_place};
 
 use crate::path::Path;
 
@@ -13,8 +13,8 @@ pub fn is_multicast(host: [u8; 4]) -> bool
     host[0] >= 224 && host[0] <= 239
 }
 
-fn is_group(host: [u8; 4]) -> bool
-    ensures { result ≡ is_group host }
+fn is_universe_group(host: [u8; 4]) -> bool
+    ensures { result ≡ is_universe_group host }
 {
     host[0] == 239 && host[1] == 255
 }
@@ -32,7 +32,7 @@ pub fn packet_place(paths: &[Path], host: [u8; 4]) -> Option<usize>
 {
     match path_place(paths, host) {
         Some(place) => Some(place),
-        None if is_group(host) => path_place(paths, EACH_GROUP),
+        None if is_universe_group(host) => path_place(paths, EACH_GROUP),
         None => None,
     }
 }

@@ -19,6 +19,6 @@ mod takers;
 
 pub use hosts::{is_multicast, packet_place, path_place};
 pub use path::{Path, sending_of};
-pub use sockets::{is_tie_due, is_tied, other_card, source_address};
+pub use sockets::{is_tie_due, is_tied, other_index, source_address};
 pub use system::{Question, RouteSystem};
 pub use takers::{card_from, first_taker, is_taken_here};

@@ -2,7 +2,7 @@ ghost use Rattle.std.specs.Prelude.{◌≡◌, ℕ, ◌&&◌, ◌++◌, ◌∷�
 ghost use Rattle.std.specs.Prelude.{IfSome, IfNone, OnSome};
 ghost use Rattle.link_notices.specs.Offers.{sending};
 ghost use Rattle.network_tables.specs.Neighbors.{silence_by};
-ghost use Rattle.packet_paths.specs.Hosts.{host_path, is_multicast, is_nowhere, new_path, state_of};
+ghost use Rattle.packet_paths.specs.Hosts.{host_path, is_multicast, is_nowhere, new_path, state_of_path};
 ghost use Rattle.packet_paths.specs.Routes.{IsFound, IsLookBefore, card_questions, is_fresh};
 ghost use Rattle.packet_paths.specs.Routes.{if_of, known_card, look_source, with_route};
 ghost use Rattle.packet_paths.specs.Takers.{asks_taker, same_taker, taker_questions, toward};
@@ -284,7 +284,7 @@ fn is_fresh(look: Option<u64>, now: Option<u64>) -> bool
 /// How a packet is offered to the system, by its path, if it has one; by how the address is that it
 /// is sent from, if it has one; and by whether any card will do.
 pub fn sending_of(path: Option<Path>, source: Option<SourceState>, is_any_route: bool) -> Sending
-    ensures { result ≡ sending (state_of path) source is_any_route }
+    ensures { result ≡ sending (state_of_path path) source is_any_route }
 {
     match path {
         Some(path) => Sending::choose(&path.state, source, is_any_route),

@@ -1,5 +1,5 @@
 ghost use Rattle.std.specs.Prelude.{◌≡◌};
-ghost use Rattle.packet_paths.specs.Sockets.{is_refused, is_tie_due, is_tied, other_card};
+ghost use Rattle.packet_paths.specs.Sockets.{is_refused, is_tie_due, is_tied, other_index};
 ghost use Rattle.packet_paths.specs.Sockets.{same_number, source_address};
 
 use std::io::ErrorKind;
@@ -34,8 +34,8 @@ fn is_same_number(card: Option<u32>, tied: Option<u32>) -> bool
 }
 
 /// The number of another card than this one, which need not be there.
-pub fn other_card(index: u32) -> u32
-    ensures { result ≡ other_card index }
+pub fn other_index(index: u32) -> u32
+    ensures { result ≡ other_index index }
 {
     if index == 1 { 2 } else { 1 }
 }

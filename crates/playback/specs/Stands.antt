@@ -16,6 +16,12 @@ pub record StandsFor {F : Type 0} (fader_stands_for : F → List Start → Type 
   pub due : playback.due ≡ due_moment show stopped moves
   pub fader : fader_stands_for playback.fader (map (start_of show) moves)
 
+-- this holds of each show and list of moves that a playback stands for, and of whether it stopped
+abbrev pub OfEach : {F : Type 0} → (F → List Start → Type 0) → PlaybackState F
+    → (Tables → List Move → Bool → Type 0) → Type 0
+OfEach fader_stands_for playback fact = (show : Tables) (moves : List Move) (stopped : Bool)
+    → StandsFor fader_stands_for show playback moves stopped → fact show moves stopped
+
 -- a playback moved to a cue: whatever moves it stood for before, it now stands for these, those
 -- that followed them by themselves up to the moment, and this one
 abbrev pub MovesTo : {F : Type 0} → (F → List Start → Type 0) → Tables → PlaybackState F

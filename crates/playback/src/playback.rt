@@ -8,7 +8,7 @@ ghost use Rattle.playback.specs.Placed.{IsPlaceAfter};
 ghost use Rattle.playback.specs.Played.{Move, go_target, back_target, goto_target};
 ghost use Rattle.playback.specs.Played.{moves_by, is_by, move_rate, start_of};
 ghost use Rattle.playback.specs.Played.{playback_level};
-ghost use Rattle.playback.specs.Stands.{StandsFor, Moves, MovesOn, Steps};
+ghost use Rattle.playback.specs.Stands.{StandsFor, Moves, MovesOn, OfEach, Steps};
 
 use crate::place::Place;
 use fade::Fader;
@@ -205,9 +205,8 @@ impl<F: Fader> Playback<F> {
 
     /// The place in the cue list: the current cue, and when the next one follows it by itself.
     pub fn place(&self) -> Place
-        ensures { (show : Tables) (moves : List Move) (stopped : Bool)
-            → StandsFor F.stands_for show self.now moves stopped
-            → IsPlaceAfter show result moves stopped }
+        ensures { OfEach F.stands_for self.now (λ show moves stopped.
+            IsPlaceAfter show result moves stopped) }
     {
         self.place
     }
@@ -216,9 +215,8 @@ impl<F: Fader> Playback<F> {
     pub fn level(&self, channel: u16) -> u32
         requires from_one { 1 ≤ channel }
         requires in_range { channel ≤ 4096 }
-        ensures level { (show : Tables) (moves : List Move) (stopped : Bool)
-            → StandsFor F.stands_for show self.now moves stopped
-            → result ≡ playback_level show moves channel (F.latest self.now.fader) }
+        ensures level { OfEach F.stands_for self.now (λ show moves stopped.
+            result ≡ playback_level show moves channel (F.latest self.now.fader)) }
         ensures full { result ≤ 65025 }
     {
         self.fader.level(channel)
@@ -228,11 +226,10 @@ impl<F: Fader> Playback<F> {
     /// the fader has them at hand.
     pub fn levels(&self) -> Option<&[u16]>
         ensures each_channel { IfSome result (λ levels. length levels.now ≡ 4096) }
-        ensures levels { IfSome result (λ levels. (show : Tables) (moves : List Move)
-            (stopped : Bool) (channel : ℕ) → StandsFor F.stands_for show self.now moves stopped
-            → IsTrue (is_channel channel)
+        ensures levels { IfSome result (λ levels. OfEach F.stands_for self.now
+            (λ show moves stopped. (channel : ℕ) → IsTrue (is_channel channel)
             → slice_index levels.now (channel - 1)
-            ≡ playback_level show moves channel (F.latest self.now.fader)) }
+            ≡ playback_level show moves channel (F.latest self.now.fader))) }
         ensures full { IfSome result (λ levels. AreLevels levels.now) }
     {
         self.fader.levels()
@@ -243,13 +240,12 @@ impl<F: Fader> Playback<F> {
     pub fn moving(&self) -> Option<&[u16]>
         ensures in_range { IfSome result (λ moving.
             All (λ channel. IsTrue (is_channel channel)) moving.now) }
-        ensures others { IfSome result (λ moving. (show : Tables) (moves : List Move)
-            (stopped : Bool) (channel moment : ℕ)
-            → StandsFor F.stands_for show self.now moves stopped
+        ensures others { IfSome result (λ moving. OfEach F.stands_for self.now
+            (λ show moves stopped. (channel moment : ℕ)
             → IsTrue (is_channel channel) → ¬ Contains moving.now channel
             → F.latest self.now.fader ≤ moment
             → playback_level show moves channel moment
-            ≡ playback_level show moves channel (F.latest self.now.fader)) }
+            ≡ playback_level show moves channel (F.latest self.now.fader))) }
     {
         self.fader.moving()
     }

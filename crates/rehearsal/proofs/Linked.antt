@@ -13,10 +13,11 @@ use Rattle.std.proofs.lemmas.Bool.{cond_both, eqb-true, ne_eqb, eq-eqb}
 use Rattle.std.proofs.lemmas.List.Kept.{AllPairs-from_increasing}
 use Rattle.devices.specs.Send.{Send}
 use Rattle.desk.proofs.Universes.{numbers_rise}
+use Rattle.desk.specs.Played.{tick_at}
 use Rattle.sacn_source.specs.declared.offered.Offered.{Offered}
 use Rattle.sacn_receiver.proofs.Members.{by_test}
 use Rattle.console.specs.Offering.{AreOffered, OffersDues, none, quiet, sent}
-use Rattle.console.specs.Streams.{Due, due_at, dues_at, tick_at}
+use Rattle.console.specs.Streams.{Due, due_at, dues_at}
 use Rattle.rehearsal.specs.Happened.{packets_of}
 use Rattle.rehearsal.specs.Replies.{due_answer}
 use Rattle.rehearsal.specs.declared.row.Row.{Row}

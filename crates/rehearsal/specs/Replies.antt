@@ -4,14 +4,14 @@ use Rattle.std.specs.Prelude.{nat_le, if◌then◌else◌, is_some, Option, Some
 use Rattle.std.specs.Prelude.{slice_get, slice_range, unwrap_or, find, Bool, false}
 use Rattle.std.specs.List.{fold, range_with_len}
 use Rattle.std.specs.Option.{option_map_or}
-use Rattle.desk.specs.Played.{ticks_since_end, refusal, tick_answer}
+use Rattle.desk.specs.Played.{order_at, refusal, tick_answer, tick_at, ticks_since_end}
 use Rattle.sacn_source.specs.declared.offered.Offered.{Offered}
 use Rattle.sacn_source.specs.declared.offered.Offered.TheVariants.{Sent, Quiet}
 use Rattle.sacn_receiver.specs.declared.answer.Taken.{Taken}
 use Rattle.sacn_receiver.specs.declared.answer.Ignored.{Ignored}
 use Rattle.sacn_receiver.specs.Taking.{answer}
 use Rattle.sacn_receiver.specs.Shown.{shown_slots}
-use Rattle.console.specs.Streams.{Due, dues_at, order_at, tick_at}
+use Rattle.console.specs.Streams.{Due, dues_at}
 use Rattle.rehearsal.specs.declared.event.Event.{Event}
 use Rattle.rehearsal.specs.declared.event.What.{What}
 use Rattle.rehearsal.specs.declared.event.What.TheVariants.{Order, Tick, Deliver, Stray, Show}

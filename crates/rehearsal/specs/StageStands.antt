@@ -1,6 +1,6 @@
 -- What a console of a rehearsal and its link keep, against the console's history.
 -- Of use inside the crate: what its public calls answer is said without these.
-use Rattle.std.specs.Prelude.{◌≡◌, ℕ, ◌+◌, false, List, [], take}
+use Rattle.std.specs.Prelude.{◌≡◌, ℕ, ◌+◌, false, List, [], ◌∷◌, take}
 use Rattle.fade.specs.Level.{Start}
 use Rattle.desk.specs.Played.{Act}
 use Rattle.console.specs.Stands as console
@@ -23,3 +23,20 @@ pub record StageStands {F : Type 0} (fader_stands_for : F → List Start → Typ
   pub packets_kept : LinkTells stage → (universe : ℕ)
       → IsRest (gone_of stage.shelves.items universe) (shelf_packets stage.shelves.items universe)
       (take (stage.last + 1) (packet_run p.source universe 0 (packets_of p history universe)))
+
+-- a stage stands for some history of a production
+abbrev pub HasHistory : {F : Type 0} → (F → List Start → Type 0) → Stage F → Type 0
+HasHistory fader_stands_for stage = (p : Production) × (history : List Act)
+    × StageStands fader_stands_for stage p history
+
+-- this holds of each history that a stage stands for, and of its production
+abbrev pub OfEach : {F : Type 0} → (F → List Start → Type 0) → Stage F
+    → (Production → List Act → Type 0) → Type 0
+OfEach fader_stands_for stage fact = (p : Production) (history : List Act)
+    → StageStands fader_stands_for stage p history → fact p history
+
+-- an act leads from one stage to another: the new one stands for each history of the old one, and
+-- the act behind it
+abbrev pub Leads : {F : Type 0} → (F → List Start → Type 0) → Act → Stage F → Stage F → Type 0
+Leads fader_stands_for act old new = OfEach fader_stands_for old
+    (λ p history. StageStands fader_stands_for new p (act ∷ history))

@@ -3,8 +3,9 @@ ghost use Rattle.std.specs.Prelude.{IsFalse, ◌+◌, ◌≤◌, ◌++◌, false
 ghost use Rattle.std.specs.Option.{option_map};
 ghost use Rattle.patch.specs.Frame.{is_base};
 ghost use Rattle.patch.specs.declared.fault.RigFault.TheVariants.{Universe};
-ghost use Rattle.desk.specs.Played.{Act, ticks_since_end, outcome, refusal, tick_answer};
-ghost use Rattle.console.specs.Streams.{Production, dues_at, order_at, tick_at};
+ghost use Rattle.desk.specs.Played.{order_at, outcome, refusal, tick_answer, tick_at};
+ghost use Rattle.desk.specs.Played.{ticks_since_end};
+ghost use Rattle.console.specs.Streams.{dues_at};
 ghost use Rattle.rehearsal.specs.Happened.{bytes_of};
 ghost use Rattle.rehearsal.specs.Replies.{due_answer};
 ghost use Rattle.rehearsal.specs.Sends.{sends_of, sent_to};
@@ -81,12 +82,9 @@ impl<F: Fader> Stage<F> {
     // Carries out a command.
     pub fn order(&mut self, moment: u64, command: Command) -> Result<(), Refused>
         ensures still_tells { LinkTells self.old → LinkTells self.new }
-        ensures answer { (p : Production) (history : List Act)
-            → StageStands F.stands_for self.old p history
-            → result ≡ outcome (refusal p.show history (order_at moment command)) tt }
-        ensures stands { OnOk result ((p : Production) (history : List Act)
-            → StageStands F.stands_for self.old p history
-            → StageStands F.stands_for self.new p (order_at moment command ∷ history)) }
+        ensures answer { OfEach F.stands_for self.old (λ p history.
+            result ≡ outcome (refusal p.show history (order_at moment command)) tt) }
+        ensures stands { OnOk result (Leads F.stands_for (order_at moment command) self.old self.new) }
         ensures gone { (u : ℕ)
             → gone_of self.new.shelves.items u ≡ gone_of self.old.shelves.items u }
         ensures last { self.new.last ≡ self.old.last }
@@ -97,18 +95,13 @@ impl<F: Fader> Stage<F> {
 
     // Shows every universe anew, and sends what is due.
     pub fn tick(&mut self, alloc: Global, moment: u64) -> Result<(Ticked, Offers), Refused>
-        requires real { (p : Production) × (history : List Act)
-            × StageStands F.stands_for self.old p history }
-        ensures answer { (p : Production) (history : List Act)
-            → StageStands F.stands_for self.old p history → LinkTells self.new
+        requires real { HasHistory F.stands_for self.old }
+        ensures answer { OfEach F.stands_for self.old (λ p history. LinkTells self.new
             → result ≡ outcome (refusal p.show history (tick_at moment))
-            (tick_answer (ticks_since_end history), map due_answer (dues_at p history moment)) }
-        ensures stands { OnOk result ((p : Production) (history : List Act)
-            → StageStands F.stands_for self.old p history
-            → StageStands F.stands_for self.new p (tick_at moment ∷ history)) }
-        ensures kept { OnErr result ((p : Production) (history : List Act)
-            → StageStands F.stands_for self.old p history
-            → StageStands F.stands_for self.new p history) }
+            (tick_answer (ticks_since_end history), map due_answer (dues_at p history moment))) }
+        ensures stands { OnOk result (Leads F.stands_for (tick_at moment) self.old self.new) }
+        ensures kept { OnErr result (OfEach F.stands_for self.old (λ p history.
+            StageStands F.stands_for self.new p history)) }
         ensures gone { LinkTells self.new → (u : ℕ)
             → gone_of self.new.shelves.items u ≡ gone_of self.old.shelves.items u }
         ensures last { self.new.last ≡ self.old.last }
@@ -129,9 +122,8 @@ impl<F: Fader> Stage<F> {
     pub fn datagram(&self, universe: u16, k: u64) -> Option<&[u8]>
         requires here { gone_of self.now.shelves.items universe ≤ k }
         requires wanted { k ≤ self.now.last }
-        ensures { (p : Production) (history : List Act)
-            → StageStands F.stands_for self.now p history → LinkTells self.now
-            → option_map (λ bytes. bytes.now) result ≡ bytes_of p history universe k }
+        ensures { OfEach F.stands_for self.now (λ p history. LinkTells self.now
+            → option_map (λ bytes. bytes.now) result ≡ bytes_of p history universe k) }
     {
         packet(self.shelves.as_slice(), universe, k)
     }
@@ -139,9 +131,8 @@ impl<F: Fader> Stage<F> {
     // Lets the packets of a universe go that are before packet `low`.
     pub fn release(&mut self, universe: u16, low: u64)
         ensures tells { LinkTells self.old → LinkTells self.new }
-        ensures stands { (p : Production) (history : List Act)
-            → StageStands F.stands_for self.old p history
-            → StageStands F.stands_for self.new p history }
+        ensures stands { OfEach F.stands_for self.old (λ p history.
+            StageStands F.stands_for self.new p history) }
         ensures gone { (u k : ℕ) → gone_of self.old.shelves.items u ≤ k → (universe ≡ u → low ≤ k)
             → gone_of self.new.shelves.items u ≤ k }
         ensures left { KeepsFrom self.new.shelves.items universe low }

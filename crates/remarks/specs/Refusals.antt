@@ -34,8 +34,8 @@ abbrev pub main_rule : List ℕ
 main_rule = codes "a main's record is one that live keeps: its first line says whose it is"
 
 -- a main that sends under the CID of the night
-abbrev pub same_cid : List ℕ
-same_cid = codes "the same cid as --cid: a backup has a CID of its own"
+abbrev pub shared_cid : List ℕ
+shared_cid = codes "the same cid as --cid: a backup has a CID of its own"
 
 -- where another CID comes from
 abbrev pub cid_rule : List ℕ
@@ -127,4 +127,4 @@ abbrev pub IsUnfitMain : UnfitMain → RecordHead → Refusal → Type 0
 IsUnfitMain main.NoRecord night refusal = Rejects no_record (remark_of (main_rule ∷ [])) refusal
 IsUnfitMain (main.Other part head) night refusal =
     Rejects (other_line part) (remark_of (other_parts part head night)) refusal
-IsUnfitMain main.SameCid night refusal = Rejects same_cid (remark_of (cid_rule ∷ [])) refusal
+IsUnfitMain main.SameCid night refusal = Rejects shared_cid (remark_of (cid_rule ∷ [])) refusal

@@ -5,7 +5,7 @@ ghost use Rattle.remarks.specs.Refusals.{IsUnfit, IsUnfitMain, Rejects, cid_part
 ghost use Rattle.remarks.specs.Refusals.{has_night, in_use, line_rule};
 ghost use Rattle.remarks.specs.Refusals.{main_line_rule, main_rule, name_parts, no_record};
 ghost use Rattle.remarks.specs.Refusals.{number_parts, other_line, other_parts, over, record_rule};
-ghost use Rattle.remarks.specs.Refusals.{refusal_line, same_cid, show_parts, spare_line_rule};
+ghost use Rattle.remarks.specs.Refusals.{refusal_line, shared_cid, show_parts, spare_line_rule};
 ghost use Rattle.remarks.specs.Refusals.{unlike_line};
 ghost use Rattle.remarks.specs.TextLines.{of_line};
 
@@ -56,8 +56,8 @@ impl Refusal {
     }
 
     /// The main that was to be followed sends under the CID of this night.
-    pub fn same_cid() -> Refusal
-        ensures { Rejects same_cid (remark_of (cid_rule ∷ [])) result }
+    pub fn shared_cid() -> Refusal
+        ensures { Rejects shared_cid (remark_of (cid_rule ∷ [])) result }
     {
         Refusal {
             line: line_of(
@@ -97,7 +97,7 @@ impl Refusal {
         match unfit {
             UnfitMain::NoRecord => Refusal::no_main(),
             UnfitMain::Other(difference, head) => Refusal::other(*difference, head, night),
-            UnfitMain::SameCid => Refusal::same_cid(),
+            UnfitMain::SameCid => Refusal::shared_cid(),
         }
     }
 

@@ -1,6 +1,6 @@
 use crate::cards::card_index;
 use crate::socket::send_whole;
-use packet_paths::{is_tied, other_card};
+use packet_paths::{is_tied, other_index};
 use std::io::ErrorKind;
 use std::net::{IpAddr, Ipv4Addr, Ipv6Addr, SocketAddr, SocketAddrV6, UdpSocket};
 
@@ -49,7 +49,10 @@ impl TiedSocket {
 fn tie(rt: &HostRuntime, address: [u8; 4], index: u32) -> Option<UdpSocket> {
     let socket = UdpSocket::bind(rt, in_version_6(address, 0)).ok()?;
     let own = socket.connect(neighbor_by(index)).err()?.kind();
-    let other = socket.connect(neighbor_by(other_card(index))).err()?.kind();
+    let other = socket
+        .connect(neighbor_by(other_index(index)))
+        .err()?
+        .kind();
     if is_tied(own, other) {
         Some(socket)
     } else {

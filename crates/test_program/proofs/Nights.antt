@@ -6,7 +6,7 @@ use Rattle.sacn_source.specs.Identity.{Identity}
 use Rattle.console.specs.Streams.{Production}
 use Rattle.cmd_live.specs.declared.night.Night.{Night}
 use Rattle.cmd_live.specs.Beginning.{HasTakenUp, OpensNight}
-use Rattle.test_program.specs.Nights.{IsPlayable}
+use Rattle.cmd_live.specs.Stands.{IsPlayable}
 
 module _ {F : Type 0} (sf : F → List Start → Type 0) (show : List ℕ) (base : ℕ)
     (source : Identity) where

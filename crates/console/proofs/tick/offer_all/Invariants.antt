@@ -1,10 +1,10 @@
 use Rattle.std.proofs.Common.{◌≡◌, ◌≤◌, ◌<◌, ℕ, List, ◌∷◌, length, take, get_or}
 use Rattle.std.specs.Prelude.{map}
-use Rattle.desk.specs.Played.{Act}
+use Rattle.desk.specs.Played.{Act, tick_at}
 use Rattle.sacn_source.specs.Stands as streams
 use Rattle.console.specs.Offering.{OffersDues}
 use Rattle.console.specs.Stands.{HasStream, HasStreams, IsMidTick}
-use Rattle.console.specs.Streams.{Production, due_at, tick_at}
+use Rattle.console.specs.Streams.{Production, due_at}
 use Rattle.console.proofs.tick.offer_all.Given as goal
 
 -- the universes so far have had their offers, and the others have not

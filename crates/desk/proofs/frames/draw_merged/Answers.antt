@@ -11,7 +11,7 @@ returns-in-Some-clause-drawn g c = λ show moves stopped level channels stands s
     All-get_or (λ floor. floor ≡ 0) c.args.merged.now.floors.now (channel - 1) 0
     (omega (arith, channel_range channel is, c.args.merged.now.each_channel))
     (c.args.merged.now.none c.if-not-merged.true) in
-    let playing = c.in-Some.ensures.levels show moves stopped channel stands is in
+    let playing = c.in-Some.ensures.levels show moves stopped stands channel is in
     omega (arith, none, playing, same channel is))
     c.args.merged.now.grand (frames_in c.draw.new.slots) c.draw.ensures
 

@@ -1,5 +1,5 @@
 ghost use Rattle.std.specs.Prelude.{IfOk};
-ghost use Rattle.test_program.specs.Nights.{IsPlayable};
+ghost use Rattle.cmd_live.specs.Stands.{IsPlayable};
 
 use super::booth::{Coming, MemoryBooth};
 use super::rows::{KEPT, TYPED, play_offers};
