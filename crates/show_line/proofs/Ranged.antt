@@ -5,8 +5,7 @@ use Rattle.show_line.proofs.Terms.{sym, arith, Option, Some, None, unwrap_or, is
 use Rattle.show_line.proofs.Terms.{if◌then◌else◌, option_map_or, nat_tests, All-nil, All-cons}
 use Rattle.show_line.proofs.Terms.{All-weaker, none-some, same_word, number_of, level_of, time_of}
 use Rattle.show_line.proofs.Terms.{cue_number_of, is_within, is_time, LineFault, BadNumber, BadTime}
-use Rattle.show_line.proofs.Terms.{Keyword, Clear, Ident, Cue, Group, Sub, Patch, Chan, Up, Down}
-use Rattle.show_line.proofs.Terms.{FollowOn, Remark, Cleared, Record, Statement, Opens, Levels}
+use Rattle.show_line.proofs.Terms.{Keyword, Cleared, Record, Statement, Opens, Levels}
 use Rattle.show_line.proofs.Terms.{CueTime, SetsTime, Patches, Clears, Quiet, Skipped, Faulty}
 use Rattle.show_line.proofs.Terms.{Triple, value_for, may_own, lower, unless, number_fault}
 use Rattle.show_line.proofs.Terms.{cue_fault, page_fault, time_fault, Limits, desk_limits}
@@ -20,6 +19,7 @@ use Rattle.show_line.proofs.Terms.{IsRecordInRange, IsPairInRange, IsTripleInRan
 use Rattle.show_line.proofs.Terms.{IsTimeInRange, IsSound}
 use Rattle.show_line.specs.declared.fault.LineFault.TheVariants.{Ident as BadIdent}
 use Rattle.show.specs.declared.cue.CueTime.TheVariants as cue_time
+use Rattle.show_line.specs.declared.keyword.Keyword.TheVariants as keywords
 use Rattle.show_line.specs.declared.statement.Record.TheVariants as record_of
 use Rattle.show_line.proofs.Lowest.{lower_both}
 use Rattle.show_line.proofs.Ranges.{number_in_range, next_pair, next_triple}
@@ -166,25 +166,25 @@ said-time lim owner time fault x fits = tt
 
 pub said_is : (lim : Limits) (owner : Option Record) (keyword : Keyword) (words : List (List ℕ))
     → IsSaid lim owner (may_own keyword) (statement_in lim owner keyword words)
-said_is lim owner Clear words = said-clear lim owner words
-said_is lim owner Ident words = said-ident lim owner true words
-said_is lim owner Cue words = said-record lim owner true cue_fault cue_named cue_in_range words
-said_is lim owner Group words =
+said_is lim owner keywords.Clear words = said-clear lim owner words
+said_is lim owner keywords.Ident words = said-ident lim owner true words
+said_is lim owner keywords.Cue words = said-record lim owner true cue_fault cue_named cue_in_range words
+said_is lim owner keywords.Group words =
     said-record lim owner true (number_fault 1 500) group_named group_in_range words
-said_is lim owner Sub words =
+said_is lim owner keywords.Sub words =
     said-record lim owner true (number_fault 1 100) sub_named sub_in_range words
-said_is lim owner Patch words = said-patch lim owner true words
-said_is lim (Some r) Chan words =
+said_is lim owner keywords.Patch words = said-patch lim owner true words
+said_is lim (Some r) keywords.Chan words =
     said-unless_faulty lim (Some r) false (pair_fault lim words) (Levels r (pairs_in words))
     (λ e. (refl, pairs_within lim words e))
-said_is lim owner Up words =
+said_is lim owner keywords.Up words =
     said-time lim owner cue_time.Up (rate_fault words) (rate_in words) (rate_in_range words)
-said_is lim owner Down words =
+said_is lim owner keywords.Down words =
     said-time lim owner cue_time.Down (rate_fault words) (rate_in words) (rate_in_range words)
-said_is lim owner FollowOn words =
+said_is lim owner keywords.FollowOn words =
     said-time lim owner cue_time.Follow (follow_fault words) (follow_in words)
     (follow_in_range words)
-said_is lim None Remark words = tt
+said_is lim None keywords.Remark words = tt
 said_is lim owner keyword words = tt
 
 -- so at this desk its numbers are in their ranges

@@ -26,10 +26,7 @@ pub use Rattle.std.proofs.lemmas.List.Elements.{All-nil, All-cons, All-weaker}
 pub use Rattle.show_line.specs.declared.fault.LineFault.TheVariants.{BadNumber, BadTime, HalfPair}
 pub use Rattle.show_line.specs.declared.fault.LineFault.TheVariants.{HalfTriple}
 pub use Rattle.show_line.specs.declared.keyword.Keyword.{Keyword}
-pub use Rattle.show_line.specs.declared.keyword.Keyword.TheVariants.{Clear, Ident, Cue, Group, Sub}
-pub use Rattle.show_line.specs.declared.keyword.Keyword.TheVariants.{Patch, Chan, Up, Down}
-pub use Rattle.show_line.specs.declared.keyword.Keyword.TheVariants.{FollowOn, Remark, EndData}
-pub use Rattle.show_line.specs.declared.keyword.Keyword.TheVariants.{Setting, Maker, Unknown}
+pub use Rattle.show_line.specs.declared.keyword.Keyword.TheVariants.{Patch, Chan}
 pub use Rattle.show_line.specs.declared.statement.Cleared.{Cleared}
 pub use Rattle.show_line.specs.declared.statement.Record.{Record}
 pub use Rattle.show_line.specs.declared.statement.Statement.{Statement}
