@@ -1,4 +1,5 @@
-ghost use Rattle.std.specs.Prelude.{◌≡◌, IsTrue, IsFalse, All, if◌then◌else◌};
+ghost use Rattle.std.specs.Prelude.{◌≡◌, IsTrue, IsFalse, All, if◌then◌else◌, nat_lt};
+ghost use Rattle.std.specs.List.{list_any};
 ghost use Rattle.desk.specs.Inside.{are_current, are_kept};
 ghost use Rattle.desk.specs.Stands.{keeps_floors};
 
@@ -26,6 +27,8 @@ pub(crate) enum FrameState {
 impl FloorState {
     /// The state of floors that were worked out just now.
     pub fn of(floors: &[u16]) -> FloorState
+        ensures value { result ≡ if list_any (nat_lt 0) floors.now
+            then FloorState.Lit else FloorState.Dark }
         ensures current { IsTrue (are_current result) }
         ensures dark { result ≡ FloorState.Dark → All (λ floor. floor ≡ 0) floors.now }
     {
@@ -48,7 +51,8 @@ impl FloorState {
 
     /// Whether a floor may be above 0.
     pub fn may_be_lit(self) -> bool
-        ensures { IsFalse result → self ≡ FloorState.Dark }
+        ensures lit { IsFalse result → self ≡ FloorState.Dark }
+        ensures dark { self ≡ FloorState.Dark → IsFalse result }
     {
         !matches!(self, FloorState::Dark)
     }
