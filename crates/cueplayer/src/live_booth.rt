@@ -24,7 +24,7 @@ pub struct LiveBooth<'a> {
     clock: NightClock<SystemClock<'a>>,
     input: NightInput<TypedInput<'a>>,
     input_end: InputEnd,
-    record: Record,
+    night_record: Record,
     screen: Screen,
     watch: Option<LinkTeller<'a>>,
 }
@@ -43,7 +43,7 @@ impl<'a> LiveBooth<'a> {
             clock: NightClock::new(SystemClock::new(rt, start), 0),
             input,
             input_end: InputEnd::new(),
-            record: night_record,
+            night_record,
             screen,
             watch: None,
         }
@@ -72,9 +72,9 @@ impl<'a> LiveBooth<'a> {
             self.clock.start = led;
         }
         if may_wait {
-            self.record.copy(line, self.screen.messages());
+            self.night_record.copy(line, self.screen.messages());
         } else {
-            self.record.keep(line, self.screen.messages());
+            self.night_record.keep(line, self.screen.messages());
         }
     }
 
@@ -103,7 +103,7 @@ impl<'a> LiveBooth<'a> {
 
     /// Hands on what waits, at the end of the night, and waits for writers.
     pub fn finish(&mut self) {
-        self.record.finish(self.rt, self.screen.messages());
+        self.night_record.finish(self.rt, self.screen.messages());
         self.screen.finish(self.rt);
     }
 
@@ -159,7 +159,7 @@ impl Booth for LiveBooth<'_> {
     }
 
     fn keep<L: Link>(&mut self, line: &[u8], _link: &L) -> Result<(), LinkFault> {
-        self.record.keep(line, self.screen.messages());
+        self.night_record.keep(line, self.screen.messages());
         self.input_end.pass_line(line);
         Ok(())
     }
