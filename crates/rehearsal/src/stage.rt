@@ -53,7 +53,7 @@ fn shelve(alloc: Global, shelves: &mut Vec<Shelf>, last: u64, link: &mut Packets
 }
 
 impl<F: Fader> Stage<F> {
-    ghost use Rattle.rehearsal.specs.StageStands.{StageStands, LinkTells};
+    ghost use Rattle.rehearsal.specs.StageStands.{HasHistory, Leads, LinkTells, OfEach, StageStands};
 
     // A console that has sent nothing yet, of whose universes no event delivers a packet behind
     // packet `last`.
