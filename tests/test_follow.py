@@ -374,7 +374,7 @@ class Silent(FollowTest):
 
 
 class Refused(FollowTest):
-    def assertRefused(self, record, fault, *options, status=4, cid=BACKUP):
+    def assertRefused(self, record, fault, status=4, cid=BACKUP, patience=200):
         """Nothing is sent, and no record is begun."""
         with receiving() as receiver:
             own = self.folder / "own.play"
@@ -388,7 +388,7 @@ class Refused(FollowTest):
                 "--record",
                 own,
             ]
-            words += ["--follow", record, "--patience", "200", *options]
+            words += ["--follow", record, "--patience", str(patience)]
             done = subprocess.run(
                 [PROGRAM, *words], input=b"take\n", capture_output=True, timeout=PATIENCE
             )
@@ -422,6 +422,16 @@ class Refused(FollowTest):
         self.assertRefused(
             self.folder / "none", rb"device fault\n.*none: there is no such file", status=5
         )
+
+    def test_head_that_does_not_come(self):
+        """It is waited for as long as the patience says, and no longer."""
+        self.record.touch()
+        for patience in (300, 1000):
+            since = time.monotonic()
+            self.assertRefused(self.record, rb"record: no record of live\n", patience=patience)
+            waited = took(since)
+            self.assertGreaterEqual(waited.ms, patience)
+            in_time(waited, patience + 1000, "a refusal")
 
     def test_same_cid_of_a_main_that_is_on(self):
         main = self.night()

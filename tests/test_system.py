@@ -26,8 +26,9 @@ SECONDS = float(os.environ.get("CUEPLAYER_CLOCK", 20))
 # How far a packet may be from its moment, in milliseconds; a clock that is a twentieth too fast is
 # that far off behind two seconds.
 OFF = 100
-# What an idle program may take of a processor, and for so many seconds it is looked at.
-BUSY, WATCHED = 0.05, 3
+# What an idle program may take of a processor, and for so many seconds it is looked at. One that
+# was built without optimization takes more: CUEPLAYER_BUSY=0.3 of the environment allows for it.
+BUSY, WATCHED = float(os.environ.get("CUEPLAYER_BUSY", 0.05)), 3
 # Ticks of which the packets are sent at once, and all of them: beyond what two bytes count.
 PART, PACKETS = 64, 70_000
 DATAGRAMS = 1_000_000
