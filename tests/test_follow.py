@@ -17,7 +17,8 @@ from wire import OPTIONS, SLOT_1, TERMINATED, address_of, receiving
 BACKUP = CID[:-1] + "2"
 # Of a backup; the main has 100.
 PRIORITY = 90
-# How long a main may be silent, in milliseconds, and how late the light may come behind that.
+# How long a main may be silent, in milliseconds, and how late the light may come behind that or the
+# main's.
 SILENCE, LATE = 300, 100
 # Of a main whose lines the test writes itself, or that is to lead however late it is.
 LONG = "60000"
@@ -116,6 +117,18 @@ class Leads(FollowTest):
         )
         # The record of a backup is the main's, but for its head.
         self.assertEqual(1, len({lines_of(each.record) for each in (main, backup)}))
+
+    def test_at_once(self):
+        """The record is looked at so often that both lights move as one."""
+        main, backup = self.both(b"go\n")
+        backup.light(30)
+        self.assertEqual((0, 0), (main.end(), backup.ended()))
+        sent = sent_by(SHOW, main.record.read_bytes())
+        came = {each.moment: heard.at for each, heard in zip(sent, main.heard)}
+        meant = self.assertStream(backup)
+        self.assertLess(30, len(meant))
+        for each, heard in zip(meant, backup.heard):
+            in_time(by_clock(came[each.moment], heard.at), LATE, "a packet behind the main's")
 
     def test_typed(self):
         """What is typed moves no light; `where` and `help` are answered."""
