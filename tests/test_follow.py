@@ -259,8 +259,10 @@ class Killed(FollowTest):
         meant = self.assertStream(backup)
         kill = main.kills[0].at
         # What the main had recorded comes within a tick or two.
-        own = len(moments(main.record.read_bytes()))
-        first = moments(backup.record.read_bytes())[own]
+        led = moments(main.record.read_bytes())
+        first = moments(backup.record.read_bytes())[len(led)]
+        # The silence has passed in the night too.
+        self.assertLessEqual(SILENCE, first - led[-1])
         after = next(k for k, each in enumerate(meant) if each.moment >= first)
         gap = by_clock(kill, backup.heard[after].at)
         print(f"    {gap.ms:.0f} ms from the kill to the backup's own light")
