@@ -1,9 +1,9 @@
 // A library to run a program with (LD_PRELOAD), whose calls of the system fail at times.
 //
 // FAILS has the failures, parted by blanks: `CALL FIRST LAST ERRNO` lets the calls FIRST to LAST (from 1)
-// of CALL fail with that number of an error, without being made. CALL is sendto, recvfrom, read, write or
-// epoll_wait; of `read` and `write` those of standard input and output alone are counted. With 0 in the
-// place of ERRNO the call is made, with one byte less than it was given.
+// of CALL fail with that number of an error, without being made. CALL is sendto, recvfrom, read, write,
+// epoll_wait or flock; of `read` and `write` those of standard input and output alone are counted. With 0
+// in the place of ERRNO the call is made, with one byte less than it was given.
 #include <errno.h>
 #include <stdio.h>
 #include <stdlib.h>
@@ -12,9 +12,9 @@
 #include <sys/syscall.h>
 #include <unistd.h>
 
-enum call { SENDTO, RECVFROM, READ, WRITE, EPOLL_WAIT, CALLS };
+enum call { SENDTO, RECVFROM, READ, WRITE, EPOLL_WAIT, FLOCK, CALLS };
 
-static const char *const names[CALLS] = {"sendto", "recvfrom", "read", "write", "epoll_wait"};
+static const char *const names[CALLS] = {"sendto", "recvfrom", "read", "write", "epoll_wait", "flock"};
 static long made[CALLS];
 
 enum outcome { PASSES, FAILS, IN_PART };
@@ -63,4 +63,8 @@ struct epoll_event;
 
 int epoll_wait(int at, struct epoll_event *events, int most, int wait) {
     return outcome(EPOLL_WAIT) == FAILS ? -1 : syscall(SYS_epoll_wait, at, events, most, wait);
+}
+
+int flock(int file, int operation) {
+    return outcome(FLOCK) == FAILS ? -1 : syscall(SYS_flock, file, operation);
 }

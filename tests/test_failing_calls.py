@@ -322,6 +322,41 @@ class Live(FailingCalls):
                 self.assertEqual(3, len([each for each in came if each[OPTIONS] == TERMINATED]))
 
 
+class Locks(FailingCalls):
+    """A file system without locks: that of the record is asked for first, and then the CID's."""
+
+    def setUp(self):
+        super().setUp()
+        self.record = self.folder / "night.play"
+
+    def recorded(self, lines, failure, *more):
+        """How a night with a record ends, without its moments, and which locks it cannot make."""
+        words = ["live", self.show, "--to", self.to, "--cid", CID, "--end-with-input"]
+        status, out, err = self.failing([*words, "--record", self.record, *more], lines, failure)
+        missing = re.findall(rb"(?m)^(\w+): no lock can be made", err)
+        return status, without_moments(out), missing
+
+    def test_night(self):
+        """It is told which lock cannot be made, and the night begins, and is recorded."""
+        cases = (1, 1, {b"record"}), (2, 2, {b"cid"}), (1, 2, {b"record", b"cid"})
+        for first, last, missing in cases:
+            with self.subTest(missing):
+                self.record.unlink(missing_ok=True)
+                status, out, told_of = self.recorded(b"go\n", ("flock", first, last, errno.ENOLCK))
+                self.assertEqual((0, missing), (status, set(told_of)))
+                self.assertEqual(["ok"] * 3, [line for line in out if line == "ok"])
+                self.assertIn(b" go\n", self.record.read_bytes())
+
+    def test_spare(self):
+        """None stands by, since it could not tell who plays."""
+        self.recorded(b"go\n", ("flock", 0, 0, 0))
+        head = b"".join(self.record.read_bytes().splitlines(keepends=True)[:2])
+        self.record.write_bytes(head)
+        refused = ("flock", 1, 1000, errno.ENOLCK), "--resume", "--spare"
+        self.assertEqual((5, []), self.recorded(b"", *refused)[:2])
+        self.assertEqual(head, self.record.read_bytes())
+
+
 # Runs in a network of its own, in which nothing is up: begins a night there, brings the network
 # up, and tells what came and what was printed.
 WITHOUT_NETWORK = """

@@ -17,7 +17,8 @@ from wire import OPTIONS, SLOT_1, TERMINATED, address_of, receiving
 BACKUP = CID[:-1] + "2"
 # Of a backup; the main has 100.
 PRIORITY = 90
-# How long a main may be silent, in milliseconds, and how late the light may come behind that.
+# How long a main may be silent, in milliseconds, and how late the light may come behind that or the
+# main's.
 SILENCE, LATE = 300, 100
 # Of a main whose lines the test writes itself, or that is to lead however late it is.
 LONG = "60000"
@@ -116,6 +117,18 @@ class Leads(FollowTest):
         )
         # The record of a backup is the main's, but for its head.
         self.assertEqual(1, len({lines_of(each.record) for each in (main, backup)}))
+
+    def test_at_once(self):
+        """The record is looked at so often that both lights move as one."""
+        main, backup = self.both(b"go\n")
+        backup.light(30)
+        self.assertEqual((0, 0), (main.end(), backup.ended()))
+        sent = sent_by(SHOW, main.record.read_bytes())
+        came = {each.moment: heard.at for each, heard in zip(sent, main.heard)}
+        meant = self.assertStream(backup)
+        self.assertLess(30, len(meant))
+        for each, heard in zip(meant, backup.heard):
+            in_time(by_clock(came[each.moment], heard.at), LATE, "a packet behind the main's")
 
     def test_typed(self):
         """What is typed moves no light; `where` and `help` are answered."""
@@ -246,8 +259,10 @@ class Killed(FollowTest):
         meant = self.assertStream(backup)
         kill = main.kills[0].at
         # What the main had recorded comes within a tick or two.
-        own = len(moments(main.record.read_bytes()))
-        first = moments(backup.record.read_bytes())[own]
+        led = moments(main.record.read_bytes())
+        first = moments(backup.record.read_bytes())[len(led)]
+        # The silence has passed in the night too.
+        self.assertLessEqual(SILENCE, first - led[-1])
         after = next(k for k, each in enumerate(meant) if each.moment >= first)
         gap = by_clock(kill, backup.heard[after].at)
         print(f"    {gap.ms:.0f} ms from the kill to the backup's own light")
@@ -374,7 +389,7 @@ class Silent(FollowTest):
 
 
 class Refused(FollowTest):
-    def assertRefused(self, record, fault, *options, status=4, cid=BACKUP):
+    def assertRefused(self, record, fault, status=4, cid=BACKUP, patience=200):
         """Nothing is sent, and no record is begun."""
         with receiving() as receiver:
             own = self.folder / "own.play"
@@ -388,7 +403,7 @@ class Refused(FollowTest):
                 "--record",
                 own,
             ]
-            words += ["--follow", record, "--patience", "200", *options]
+            words += ["--follow", record, "--patience", str(patience)]
             done = subprocess.run(
                 [PROGRAM, *words], input=b"take\n", capture_output=True, timeout=PATIENCE
             )
@@ -422,6 +437,16 @@ class Refused(FollowTest):
         self.assertRefused(
             self.folder / "none", rb"device fault\n.*none: there is no such file", status=5
         )
+
+    def test_head_that_does_not_come(self):
+        """It is waited for as long as the patience says, and no longer."""
+        self.record.touch()
+        for patience in (300, 1000):
+            since = time.monotonic()
+            self.assertRefused(self.record, rb"record: no record of live\n", patience=patience)
+            waited = took(since)
+            self.assertGreaterEqual(waited.ms, patience)
+            in_time(waited, patience + 1000, "a refusal")
 
     def test_same_cid_of_a_main_that_is_on(self):
         main = self.night()

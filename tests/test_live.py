@@ -188,6 +188,29 @@ class Live(LiveTest):
         self.assertEqual(-signal.SIGTERM, night.wait(timeout=30))
         self.assertEqual((b"", b""), (night.stdout.read(), night.stderr.read()))
 
+    def test_fifo_that_ended(self):
+        """With its last writer an input has ended, as is told: what another one writes is not
+        read."""
+        fifo = self.folder / "typed"
+        os.mkfifo(fifo)
+        theirs = os.open(fifo, os.O_RDONLY | os.O_NONBLOCK)
+        ours = os.open(fifo, os.O_WRONLY)
+        os.set_blocking(theirs, True)
+        night = self.begun(stdin=theirs, holds=True)
+        os.close(theirs)
+        os.write(ours, b"sub 1 FL\n")
+        self.assertEqual(["ok"], without_moments(night.stdout.readline()))
+        os.close(ours)
+        self.assertTrue(night.stderr.readline().startswith(b"input ended: "))
+        ours = os.open(fifo, os.O_WRONLY)
+        self.addCleanup(os.close, ours)
+        os.write(ours, b"sub 1 0\nend\n")
+        time.sleep(0.5)
+        self.assertIsNone(night.poll())
+        self.assertEqual(128, self.came()[-1][SLOT_1])
+        night.terminate()
+        self.assertEqual((b"", b""), (night.stdout.read(), night.stderr.read()))
+
     def test_after_end(self):
         """What is typed after `end` is refused: the lines that end a night come as they are."""
         record = self.folder / "night.play"

@@ -12,6 +12,7 @@ import time
 from machine import in_time
 from program import PROGRAM, behind_head, run
 from test_live import NEVER, LiveTest, without_moments
+from tooling import wait_for
 from wire import SEQUENCE, SLOT_1, terminal
 
 # From one tick to the next at most, in milliseconds; what holds up the light does for seconds.
@@ -129,12 +130,12 @@ class Outputs(OutputsTest):
         self.light(night, b"sub 1 FL\n", 128)
         self.light(night, b"sub 1 0\n", 0)
         out = []
-        reader = threading.Thread(target=lambda: out.append(night.stdout.read()))
+        reader = threading.Thread(target=lambda: out.extend(night.stdout))
         reader.start()
-        time.sleep(0.5)
+        wait_for(lambda: any(b" replies dropped" in line for line in out), "what was dropped")
         self.assertEnds(night)
         reader.join(timeout=30)
-        printed = out[0].splitlines()
+        printed = [line.rstrip(b"\n") for line in out]
         notices = [each for each in printed if each.endswith(b" replies dropped")]
         self.assertEqual(1, len(notices), notices)
         dropped = int(notices[0].split()[0])

@@ -11,7 +11,8 @@ from program import TOP
 
 NAMES = ("conform", "convert", "desk", "osc", "picture", "sheet", "storm", "watch")
 TOOLS = [TOP / "tools/cueplayer_tools", *(TOP / "tools" / name for name in NAMES)]
-WRITERS = [TOP / "dev/generators", TOP / "dev/lines", TOP / "dev/pages"]
+SCRIPTS = ("edits", "lines", "pages", "wrong-programs")
+WRITERS = [TOP / "dev/generators", *(TOP / "dev" / name for name in SCRIPTS)]
 TESTS = [TOP / "tests", TOP / "tests/run"]
 
 

@@ -34,6 +34,9 @@ TRIES = 20
 # A restart may take so much longer where the script starts the program and its writer.
 BY_SCRIPT = 500
 HOUR = 3600
+# How long the long record is. A program that was built without optimization reads some 1,500 lines
+# a second: CUEPLAYER_HOURS=0.03 of the environment makes a record of 4,320.
+HOURS = float(os.environ.get("CUEPLAYER_HOURS", 12))
 # Lines with comments and keys, some that are refused, and one that is not recorded.
 HARD = b"goto 1 in 9 ! here\nGOTO  2\nback\nback\n\x1b[Ago\nwhere\ngroup 9 FL\n"
 
@@ -429,7 +432,7 @@ class Clock(RestartTest):
         """A long record takes its time, and moments go on with real time all the same. At rest a
         packet came each 800 ms, behind the four of the first ticks."""
         night = self.night()
-        ticks = range(0, 12_000 * HOUR, 25)
+        ticks = range(0, int(1000 * HOURS * HOUR), 25)
         lines = b"".join(b"%d tick\n" % moment for moment in ticks)
         night.record.write_bytes(head(SHOW) + lines)
         self.assertInRealTime(*self.taken_up(night))

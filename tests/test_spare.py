@@ -152,6 +152,17 @@ class Spare(RestartTest):
         self.assertGoesOn(night)
         self.assertOne(night)
 
+    def test_head_that_comes(self):
+        """The head of the record may take a second to come."""
+        night = self.night()
+        night.record.touch()
+        night.stands_by()
+        time.sleep(0.3)
+        night.record.write_bytes(head(self.SHOW) + b"0 tick\n")
+        night.promote()
+        night.light()
+        self.assertEnds(night)
+
     def test_refused(self):
         """A record that is none, or of another night, and a line that no night gives."""
         show = self.SHOW

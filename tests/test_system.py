@@ -26,8 +26,11 @@ SECONDS = float(os.environ.get("CUEPLAYER_CLOCK", 20))
 # How far a packet may be from its moment, in milliseconds; a clock that is a twentieth too fast is
 # that far off behind two seconds.
 OFF = 100
-# What an idle program may take of a processor, and for so many seconds it is looked at.
-BUSY, WATCHED = 0.05, 3
+# What an idle program may take of a processor, and for so many seconds it is looked at. One that
+# was built without optimization takes more: CUEPLAYER_BUSY=0.3 of the environment allows for it.
+BUSY, WATCHED = float(os.environ.get("CUEPLAYER_BUSY", 0.05)), 3
+# How often a second a night that waits sleeps, at least.
+ASLEEP = 5
 # Ticks of which the packets are sent at once, and all of them: beyond what two bytes count.
 PART, PACKETS = 64, 70_000
 DATAGRAMS = 1_000_000
@@ -231,12 +234,15 @@ class Processor(FollowTest):
     ticks."""
 
     def taken(self, *processes):
-        """What share of a processor each took for some seconds."""
+        """What share of a processor each took for some seconds, and how often a second it
+        slept."""
         before, at = [processor_time(each) for each in processes], time.monotonic()
+        slept = [sleeps(each) for each in processes]
         time.sleep(WATCHED)
         seconds = time.monotonic() - at
         after = [processor_time(each) for each in processes]
-        return [(b - a) / seconds for a, b in zip(before, after)]
+        shares = [(b - a) / seconds for a, b in zip(before, after)]
+        return shares, [(sleeps(each) - a) / seconds for each, a in zip(processes, slept)]
 
     def test_nights(self):
         """One that is idle, one whose input has ended, a spare, a backup, and `listen`."""
@@ -253,12 +259,20 @@ class Processor(FollowTest):
         self.addCleanup(listener.abandon)
         nights = (idle.processes[-1], backup.processes[-1], ended.processes[-1], spare)
         heard = len(idle.heard)
-        shares = self.taken(*nights, listener.child)
+        shares, slept = self.taken(*nights, listener.child)
         names = ("idle", "backup", "input ended", "spare", "listen")
         told = {name: f"{100 * share:.1f} %" for name, share in zip(names, shares)}
         print(f"    {told}")
         self.assertLess(max(shares), BUSY, told)
+        # On a busy machine a night that never waits takes little, too; but it does not sleep.
+        self.assertGreater(min(slept[:-1]), ASLEEP, slept)
         self.assertGreater(len(idle.heard), heard)
+
+
+def sleeps(process):
+    """How often a process gave its processor away."""
+    status = Path(f"/proc/{process.pid}/status").read_text()
+    return int(re.search(r"(?m)^voluntary_ctxt_switches:\s*(\d+)", status)[1])
 
 
 def processor_time(process):

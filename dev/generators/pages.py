@@ -2,7 +2,7 @@
 
 from pathlib import Path
 
-from generators import calls, examples_page, synopsis
+from generators import calls, examples_page, synopsis, wrong_programs
 from generators.command_line import jobs
 from generators.marks import TOP, with_block
 
@@ -31,5 +31,7 @@ def pages() -> dict[Path, str]:
             text = with_block(name, block, content, text)
         found[TOP / name] = text
     found[TOP / "docs/EXAMPLES.md"] = examples_page.page()
-    found[calls.PAGE] = calls.page()
+    found[calls.PAGE] = with_block(
+        "docs/PROVED.md", "the wrong programs", wrong_programs.table(), calls.page()
+    )
     return found

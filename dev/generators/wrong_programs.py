@@ -1,0 +1,97 @@
+"""The wrong programs of tests/wrong_programs/: what each has wrong, which tests catch it, and the
+edit of the sources that makes it; and the table of them in docs/PROVED.md.
+
+A file has lines of four kinds:
+
+    wrong: WORDS                      what is wrong, as the table tells it
+    caught: [NAME=VALUE ..] TEST ..   the variables and the names of the tests: a module, a class
+                                      of it, or one test
+    file: CRATE/src/FILE.rt           below crates/
+    old: TEXT                         it stands there once
+    new: TEXT                         in its place
+"""
+
+from pathlib import Path
+from typing import NamedTuple
+
+from generators.marks import TOP
+
+FOLDER = TOP / "tests/wrong_programs"
+TITLE = "| The wrong program | Caught by |\n|---|---|\n"
+
+
+class Edit(NamedTuple):
+    """One text of a file of crates/, and what stands in its place."""
+
+    file: str
+    old: str
+    new: str
+
+
+class WrongProgram(NamedTuple):
+    """A wrong program, by the name of its file."""
+
+    name: str
+    wrong: str
+    tests: list[str]
+    environment: dict[str, str]
+    edits: list[Edit]
+
+    def row(self) -> str:
+        """Its row of the table."""
+        tests = ", ".join(f"`{test}`" for test in self.tests)
+        told = " ".join(f"{name}={value}" for name, value in self.environment.items())
+        return f"| {self.wrong} | {tests}{told and f' with `{told}`'} |\n"
+
+
+class EditUnfit(Exception):
+    """An edit does not fit the sources."""
+
+
+def read_program(path: Path) -> WrongProgram:
+    """The wrong program of a file."""
+    program = WrongProgram(path.stem, "", [], {}, [])
+    file = old = ""
+    for line in path.read_text().splitlines():
+        word, _, text = line.partition(": ")
+        if word == "wrong":
+            program = program._replace(wrong=text)
+        elif word == "caught":
+            for each in text.split():
+                name, is_variable, value = each.partition("=")
+                if is_variable:
+                    program.environment[name] = value
+                else:
+                    program.tests.append(name)
+        elif word == "file":
+            file = text
+        elif word == "old":
+            old = text
+        elif word == "new" or line == "new:":
+            program.edits.append(Edit(file, old, text))
+        else:
+            raise EditUnfit(f"{path.name}: no line of a wrong program: {line}")
+    return program
+
+
+def wrong_programs() -> list[WrongProgram]:
+    """All of them, by their names."""
+    return [read_program(path) for path in sorted(FOLDER.glob("*.edit"))]
+
+
+def edited(program: WrongProgram, crates: Path) -> dict[Path, str]:
+    """The files of crates/ that a wrong program changes, as they are then."""
+    texts: dict[Path, str] = {}
+    for edit in program.edits:
+        source = crates / edit.file
+        text = texts.get(source) or source.read_text()
+        if text.count(edit.old) != 1 or edit.old == edit.new:
+            raise EditUnfit(f"{program.name}: not once in {edit.file}: {edit.old}")
+        texts[source] = text.replace(edit.old, edit.new)
+    return texts
+
+
+def table() -> str:
+    """The table of docs/PROVED.md: a row a program, those of the same tests side by side."""
+    found = sorted(wrong_programs(), key=lambda each: (each.tests, each.name))
+    return TITLE + "".join(program.row() for program in found)
