@@ -20,7 +20,8 @@ led_by (line ∷ lines) (Line led ∷ older) = (led.items ≡ line) × led_by li
 led_by _ _ = ⊥
 
 -- the night is over behind these lines
-abbrev pub IsOverBehind : {F : Type 0} → (F → List Start → Type 0) → Night F → List (List ℕ) → Type 0
+abbrev pub IsOverBehind : {F : Type 0} → (F → List Start → Type 0) → Night F → List (List ℕ)
+    → Type 0
 IsOverBehind fader_stands_for night lines =
     (p : Production) (older : List (List ℕ)) → StandsFor fader_stands_for p night (recall_of older)
     → is_over (answers (recall_of (lines ++ older))) ≡ true

@@ -13,13 +13,15 @@ use Rattle.clap.specs.Kinds.{Kinds, check_kinds, or_else, request_kinds}
 use Rattle.clap.specs.Walk.{Held, Names, Outcome, Row, Rule, Step, Text, Waiting, Walk, action_of}
 use Rattle.clap.specs.Walk.{after_flag, after_step, arg_by_id, arg_by_index, arg_by_long}
 use Rattle.clap.specs.Walk.{arg_by_short, at_row, attached_value, bundle_met, bundle_step}
-use Rattle.clap.specs.Walk.{default_rows, finished, first_of, flag_met, has_row, long_met, more_values}
-use Rattle.clap.specs.Walk.{nothing_held, option_met, option_word, plain_word, plain, done, waits, refused}
+use Rattle.clap.specs.Walk.{default_rows, finished, first_of, flag_met, has_row, long_met}
+use Rattle.clap.specs.Walk.{more_values, nothing_held, option_met, option_word, plain_word, plain}
+use Rattle.clap.specs.Walk.{done, waits, refused}
 use Rattle.clap.specs.Walk.{idle, option, positional, next, trailing, subcommand, value}
 use Rattle.clap.specs.Walk.{reacted, reading_by, rows_after, settled, settled_rows, short_met}
-use Rattle.clap.specs.Walk.{subcommand_met, takes_several, takes_values, to_positional, used, used_as}
-use Rattle.clap.specs.Walk.{used_by_id, values_or_missing, walk, walk_from, walked, with_default}
-use Rattle.clap.specs.Walk.{with_values, without, word_met, is_pending, positional_held, walked_from}
+use Rattle.clap.specs.Walk.{subcommand_met, takes_several, takes_values, to_positional, used}
+use Rattle.clap.specs.Walk.{used_as, used_by_id, values_or_missing, walk, walk_from, walked, with_default}
+use Rattle.clap.specs.Walk.{with_values, without, word_met, is_pending, positional_held}
+use Rattle.clap.specs.Walk.{walked_from}
 use Rattle.clap.specs.Walk.{bundle, long_or_other, short_or_plain, subcommand_or_other}
 use Rattle.clap.specs.Simple.{App, Shape, argument_words, built, entered, label_of, names_of}
 use Rattle.clap.specs.Simple.{rows_at, subcommand_of}
@@ -342,12 +344,14 @@ module _ (s : Shape) (names : Names) (good : list_all brings_value s.rules ≡ t
           → are_full (walked_from s.rules names o w word).held.rows ≡ true
       go (Some p) passes = f
       go None passes =
-          let steps = none_first (word_fault s names w.is_trailing w.waiting word w.held) _ passes in
+          let fault = word_fault s names w.is_trailing w.waiting word w.held in
+          let steps = none_first fault _ passes in
           step_full w word _ _ steps.1
           (word_full w.is_trailing w.waiting w.position word w.held steps.0 f)
 
   walk_full : (w : Walk) (words : List Text) → walk_fault s names w words ≡ []
-      → are_full w.held.rows ≡ true → are_full (fold (walked s.rules names) w words).held.rows ≡ true
+      → are_full w.held.rows ≡ true
+      → are_full (fold (walked s.rules names) w words).held.rows ≡ true
   unfolding walk_fault
   walk_full w [] passes f = f
   walk_full w (word ∷ rest) passes f =
@@ -452,7 +456,8 @@ module _ (s : Shape) (names : Names) where
       go (Some p) passes o = o
       go None passes o =
           let met = word_met s.rules names w.is_trailing w.waiting w.position word w.held in
-          let steps = none_first (word_fault s names w.is_trailing w.waiting word w.held) _ passes in
+          let fault = word_fault s names w.is_trailing w.waiting word w.held in
+          let steps = none_first fault _ passes in
           step_stops w word met.0 met.1 so
           (word_enters w.is_trailing w.waiting w.position word w.held steps.0)
 
@@ -576,7 +581,18 @@ Suits s = ((list_all brings_value s.rules ≡ true) × (is_line s.name ≡ true)
 
 program_suits : Each Suits (built program).subs
 unfolding clap_on_literals
-program_suits = (inl (refl, refl, λ rows h. h), (inl (refl, refl, λ rows h. h), (inl (refl, refl, λ rows h. h), (inl (refl, refl, λ rows h. h), (inl (refl, refl, λ rows h. h), (inl (refl, refl, λ rows h. h), (inl (refl, refl, λ rows h. h), (inl (refl, refl, λ rows h. h), (inl (refl, refl, λ rows h. h), (inl (refl, refl, λ rows h. h), (inr refl, tt)))))))))))
+program_suits =
+    (inl (refl, refl, λ rows h. h),
+    (inl (refl, refl, λ rows h. h),
+    (inl (refl, refl, λ rows h. h),
+    (inl (refl, refl, λ rows h. h),
+    (inl (refl, refl, λ rows h. h),
+    (inl (refl, refl, λ rows h. h),
+    (inl (refl, refl, λ rows h. h),
+    (inl (refl, refl, λ rows h. h),
+    (inl (refl, refl, λ rows h. h),
+    (inl (refl, refl, λ rows h. h),
+    (inr refl, tt)))))))))))
 
 help_enabled : (built program).top.disable_help_subcommand ≡ false
 unfolding clap_on_literals
@@ -602,7 +618,8 @@ level_whole : (s : Shape) (name : Text) (words : List Text) → Suits s
 level_whole s name words (inl suits) answers work passes =
     (suits.1, suits.2 (rows_after s.rules [] words) (level_texts s words suits.0 passes))
 level_whole s name words (inr help) answers work passes =
-    let same : answers_to name (codes "help", []) ≡ true = ap (answers_to name) (sym help) ∙ answers in
+    let same : answers_to name (codes "help", []) ≡ true =
+        ap (answers_to name) (sym help) ∙ answers in
     let is : name ≡ codes "help" = sym ((bytes_eq-Decides (codes "help") name).0 (either _ same)) in
     let no : true ≡ false = sym (ap (λ n. bytes_eq n (codes "help")) is ∙ refl) ∙ work in
     cc

@@ -85,7 +85,8 @@ impl<F: Fader> Console<F> {
     pub fn command(&mut self, moment: u64, command: Command) -> Result<(), Refused>
         ensures answer { OfEach F.stands_for self.old (λ production history.
             result ≡ outcome (refusal production.show history (order_at moment command)) tt) }
-        ensures stands { OnOk result (Leads F.stands_for (order_at moment command) self.old self.new) }
+        ensures stands { OnOk result
+            (Leads F.stands_for (order_at moment command) self.old self.new) }
         ensures unchanged { OnErr result (self.new ≡ self.old) }
     {
         self.desk.command(moment, command)

@@ -12,7 +12,8 @@ ghost use Rattle.playback.specs.Stands as playback_stands;
 ghost use Rattle.masters.specs.Settings as masters_stand;
 ghost use Rattle.patch.specs.Frame.{is_universe, is_base, frames_in};
 ghost use Rattle.patch.specs.declared.fault.RigFault.TheVariants.{Universe};
-ghost use Rattle.desk.specs.Played.{Act, order, order_at, tick, tick_at, ticks_since_end, ended_by, moves, settings};
+ghost use Rattle.desk.specs.Played.{Act, order, order_at, tick, tick_at, ticks_since_end, ended_by};
+ghost use Rattle.desk.specs.Played.{moves, settings};
 ghost use Rattle.desk.specs.Played.{time_refusal, is_after_end, is_soon, lack_refusal, refusal};
 ghost use Rattle.desk.specs.Played.{outcome, tick_answer};
 ghost use Rattle.desk.specs.DeskState.{DeskState};
@@ -155,7 +156,8 @@ impl<F: Fader> Desk<F> {
     pub fn command(&mut self, moment: u64, command: Command) -> Result<(), Refused>
         ensures answer { OfEach F.stands_for self.old (λ show base history.
             result ≡ outcome (refusal show history (order_at moment command)) tt) }
-        ensures stands { OnOk result (Leads F.stands_for (order_at moment command) self.old self.new) }
+        ensures stands { OnOk result
+            (Leads F.stands_for (order_at moment command) self.old self.new) }
         ensures unchanged { OnErr result (self.new ≡ self.old) }
     {
         if let Some(refused) = time_refusal(self.last_moment, moment, self.ended.is_some(), false) {
@@ -182,8 +184,9 @@ impl<F: Fader> Desk<F> {
     /// The first of `Backwards`, `MomentTooLarge`, `Ended` and `TooSoon` that applies; then nothing
     /// changed.
     pub fn tick(&mut self, moment: u64) -> Result<Ticked, Refused>
-        ensures answer { OfEach F.stands_for self.old (λ show base history. result
-            ≡ outcome (refusal show history (tick_at moment)) (tick_answer (ticks_since_end history))) }
+        ensures answer { OfEach F.stands_for self.old (λ show base history.
+            result ≡ outcome (refusal show history (tick_at moment))
+            (tick_answer (ticks_since_end history))) }
         ensures stands { OnOk result (Leads F.stands_for (tick_at moment) self.old self.new) }
         ensures unchanged { OnErr result (self.new ≡ self.old) }
     {

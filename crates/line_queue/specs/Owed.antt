@@ -1,5 +1,5 @@
--- What processes that write the files of outputs owe: bytes that they were given, and that the files
--- do not have yet.
+-- What processes that write the files of outputs owe: bytes that they were given, and that the
+-- files do not have yet.
 use Rattle.std.specs.Prelude.{ℕ, ◌+◌, ◌-◌, Bool, false, ◌&&◌, nat_eq, if◌then◌else◌}
 use Rattle.std.specs.Prelude.{List, ◌++◌, Option, Some, None, codes, decimal}
 use Rattle.line_queue.specs.declared.owed.WrittenFile.{WrittenFile}

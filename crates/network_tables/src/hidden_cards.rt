@@ -1,5 +1,6 @@
 ghost use Rattle.std.specs.Prelude.{◌≡◌, []};
-ghost use Rattle.network_tables.specs.HiddenCards.{count_with, hidden_name, names_with, behind_if_room};
+ghost use Rattle.network_tables.specs.HiddenCards.{behind_if_room, count_with, hidden_name};
+ghost use Rattle.network_tables.specs.HiddenCards.{names_with};
 
 use crate::card::CardState;
 use crate::table::Card;

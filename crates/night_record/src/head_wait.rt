@@ -1,5 +1,5 @@
-ghost use Rattle.std.specs.Prelude.{◌≡◌, ◌≤◌, ◌-◌, ◌++◌, ◌∷◌, [], List, IfOk, IfSome, IsNone, OnErr};
-ghost use Rattle.std.specs.Prelude.{option_map};
+ghost use Rattle.std.specs.Prelude.{◌≡◌, ◌≤◌, ◌-◌, ◌++◌, ◌∷◌, [], List, IfOk, IfSome, IsNone};
+ghost use Rattle.std.specs.Prelude.{OnErr, option_map};
 ghost use Rattle.night_record.specs.HeadWait.{AreHeadSteps, IsLineMissing, line_after};
 ghost use Rattle.night_record.specs.declared.head_wait.LineStep.{LineStep as StepOf};
 ghost use Rattle.night_record.specs.declared.head_wait.LineStep.TheVariants.{Failure, Look, Turn};

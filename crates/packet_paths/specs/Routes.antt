@@ -25,7 +25,8 @@ abbrev pub if_of : List ℕ → Option CardAddress → Option CardAddress
 if_of address None = None
 if_of address (Some known) = if bytes_eq known.address address then Some known else None
 
--- the card of an address that a route gives, where it is known: the source's own, or the last look's
+-- the card of an address that a route gives, where it is known: the source's own, or the last
+-- look's
 abbrev pub known_card : List ℕ → CardAddress → Option CardAddress → Option CardAddress
 known_card address source last =
     if bytes_eq source.address address then Some source else if_of address last
@@ -35,13 +36,15 @@ abbrev pub IsCardOf : Option CardAddress → CardAddress → Type 0
 IsCardOf None found = Unit {0}
 IsCardOf (Some known) found = found ≡ known
 
-abbrev pub IsFound : Option (List ℕ) → CardAddress → Option CardAddress → Option CardAddress → Type 0
+abbrev pub IsFound : Option (List ℕ) → CardAddress → Option CardAddress → Option CardAddress
+    → Type 0
 IsFound route source last None = route ≡ None
 IsFound route source last (Some found) =
     (route ≡ Some found.address) × IsCardOf (known_card found.address source last) found
 
 -- a card that is not known is asked for
-abbrev pub card_questions : List ℕ → CardAddress → Option CardAddress → Option CardAddress → List Question
+abbrev pub card_questions : List ℕ → CardAddress → Option CardAddress → Option CardAddress
+    → List Question
 card_questions host source last None = []
 card_questions host source last (Some found) =
     if is_some (known_card found.address source last) then []
@@ -52,8 +55,8 @@ abbrev pub with_route : Path → Option CardAddress → CardAddress → Bool →
 with_route path found source is_any_route =
     record path { route = found; state = path_state found source is_any_route }
 
--- a look before a packet, where the last look counts: only the time was asked for; and where it does
--- not: then the address that the route gives, and its card
+-- a look before a packet, where the last look counts: only the time was asked for; and where it
+-- does not: then the address that the route gives, and its card
 abbrev pub IsLookAt : Bool → CardAddress → Path → Path → Option ℕ → List Question → Type 0
 IsLookAt true source before after time questions =
     (after ≡ before) × (questions ≡ question.Time time ∷ [])

@@ -1,5 +1,6 @@
 ghost use Rattle.std.specs.Prelude.{◌≡◌};
-ghost use Rattle.packet_paths.specs.Hosts.{is_universe_group, is_multicast, packet_place, path_place};
+ghost use Rattle.packet_paths.specs.Hosts.{is_multicast, is_universe_group, packet_place};
+ghost use Rattle.packet_paths.specs.Hosts.{path_place};
 
 use crate::path::Path;
 

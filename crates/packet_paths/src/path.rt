@@ -2,7 +2,8 @@ ghost use Rattle.std.specs.Prelude.{◌≡◌, ℕ, ◌&&◌, ◌++◌, ◌∷�
 ghost use Rattle.std.specs.Prelude.{IfSome, IfNone, OnSome};
 ghost use Rattle.link_notices.specs.Offers.{sending};
 ghost use Rattle.network_tables.specs.Neighbors.{silence_by};
-ghost use Rattle.packet_paths.specs.Hosts.{host_path, is_multicast, is_nowhere, new_path, state_of_path};
+ghost use Rattle.packet_paths.specs.Hosts.{host_path, is_multicast, is_nowhere, new_path};
+ghost use Rattle.packet_paths.specs.Hosts.{state_of_path};
 ghost use Rattle.packet_paths.specs.Routes.{IsFound, IsLookBefore, card_questions, is_fresh};
 ghost use Rattle.packet_paths.specs.Routes.{if_of, known_card, look_source, with_route};
 ghost use Rattle.packet_paths.specs.Takers.{asks_taker, same_taker, taker_questions, toward};

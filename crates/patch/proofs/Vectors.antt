@@ -27,7 +27,8 @@ get_or-most a b p q lane lt =
     ∙ chosen (get_or a lane 0) (get_or b lane 0) _ refl
 
 -- a slot of a list into which a vector was stored
-pub stored : (a v : List ℕ) (from s : ℕ) → length v ≡ 32 → from + 32 ≤ length a → from ≤ s → s < from + 32
+pub stored : (a v : List ℕ) (from s : ℕ) → length v ≡ 32 → from + 32 ≤ length a → from ≤ s
+    → s < from + 32
     → get_or (put_chunk from a v) s 0 ≡ get_or v (s - from) 0
 stored a v from s long fits low high =
     ap (λ place. get_or (put_chunk from a v) place 0) (omega arith)

@@ -53,7 +53,8 @@ fn shelve(alloc: Global, shelves: &mut Vec<Shelf>, last: u64, link: &mut Packets
 }
 
 impl<F: Fader> Stage<F> {
-    ghost use Rattle.rehearsal.specs.StageStands.{HasHistory, Leads, LinkTells, OfEach, StageStands};
+    ghost use Rattle.rehearsal.specs.StageStands.{HasHistory, Leads, LinkTells, OfEach};
+    ghost use Rattle.rehearsal.specs.StageStands.{StageStands};
 
     // A console that has sent nothing yet, of whose universes no event delivers a packet behind
     // packet `last`.
@@ -84,7 +85,8 @@ impl<F: Fader> Stage<F> {
         ensures still_tells { LinkTells self.old → LinkTells self.new }
         ensures answer { OfEach F.stands_for self.old (λ p history.
             result ≡ outcome (refusal p.show history (order_at moment command)) tt) }
-        ensures stands { OnOk result (Leads F.stands_for (order_at moment command) self.old self.new) }
+        ensures stands { OnOk result
+            (Leads F.stands_for (order_at moment command) self.old self.new) }
         ensures gone { (u : ℕ)
             → gone_of self.new.shelves.items u ≡ gone_of self.old.shelves.items u }
         ensures last { self.new.last ≡ self.old.last }

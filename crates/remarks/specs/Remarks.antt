@@ -1,6 +1,6 @@
 -- What is told behind the line of a fault.
-use Rattle.std.specs.Prelude.{ℕ, List, [], ◌∷◌, ◌++◌, ◌&&◌, codes, flat_map, if◌then◌else◌, map, nat_le}
-use Rattle.std.specs.Prelude.{take}
+use Rattle.std.specs.Prelude.{ℕ, List, [], ◌∷◌, ◌++◌, ◌&&◌, codes, flat_map, if◌then◌else◌, map}
+use Rattle.std.specs.Prelude.{nat_le, take}
 use Rattle.std.specs.Str.{chars}
 use Rattle.std.specs.declared.io.ErrorKind.{ErrorKind}
 use Rattle.live_machine.specs.Failure.{words_for}

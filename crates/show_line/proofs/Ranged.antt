@@ -168,7 +168,8 @@ pub said_is : (lim : Limits) (owner : Option Record) (keyword : Keyword) (words 
     → IsSaid lim owner (may_own keyword) (statement_in lim owner keyword words)
 said_is lim owner keywords.Clear words = said-clear lim owner words
 said_is lim owner keywords.Ident words = said-ident lim owner true words
-said_is lim owner keywords.Cue words = said-record lim owner true cue_fault cue_named cue_in_range words
+said_is lim owner keywords.Cue words =
+    said-record lim owner true cue_fault cue_named cue_in_range words
 said_is lim owner keywords.Group words =
     said-record lim owner true (number_fault 1 500) group_named group_in_range words
 said_is lim owner keywords.Sub words =

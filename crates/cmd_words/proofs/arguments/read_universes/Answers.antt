@@ -1,4 +1,5 @@
-use Rattle.std.proofs.Common.{Ok, ap, arith, length, length-append, sym, ◌+◌, ◌∙◌, ◌∷◌, ◌≡◌, ◌≤◌, []}
+use Rattle.std.proofs.Common.{Ok, ap, arith, length, length-append, sym, ◌+◌, ◌∙◌, ◌∷◌, ◌≡◌, ◌≤◌}
+use Rattle.std.proofs.Common.{[]}
 use Rattle.std.proofs.lemmas.List.Elements.{All-push}
 use Rattle.std.proofs.lemmas.Result.{err_from_is_err_and}
 use Rattle.cmd_words.proofs.Watched.{one_more, stops}

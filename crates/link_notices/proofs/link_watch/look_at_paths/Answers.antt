@@ -37,7 +37,8 @@ pub returns-clause-notices : goal.returns-clause-notices
 returns-clause-notices c =
     place_all (path_news c.args.look.now.sources.items c.args.watches.now)
     c.loop-place.notices.items c.args.notices.now.items c.args.look.now.paths.items
-    c.loop-place.place (rw c.as_slice-path-items.ensures.value at c.loop-place-test.false) c.loop-place.invariant.notices
+    c.loop-place.place (rw c.as_slice-path-items.ensures.value at c.loop-place-test.false)
+    c.loop-place.invariant.notices
 
 pub returns-clause-told : goal.returns-clause-told
 returns-clause-told c =

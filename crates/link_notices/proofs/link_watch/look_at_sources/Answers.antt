@@ -10,7 +10,8 @@ loop-place-preserved c =
     let watches = c.args.watches.now in
     let place = c.loop-place.place in
     let inside = rw c.as_slice-is-items.ensures.value at c.loop-place-test.true in
-    let told = rw (c.source_at-watch.ensures, c.as_slice-is-items.ensures.value) at c.look-notice.ensures.notice in
+    let told = rw (c.source_at-watch.ensures, c.as_slice-is-items.ensures.value)
+        at c.look-notice.ensures.notice in
     record {
       notices = c.push_source.ensures.notices
           ∙ ap (λ n. c.loop-place.notices.items ++ source_notice place n) told
@@ -24,5 +25,6 @@ loop-place-preserved c =
 pub returns-clause-notices : goal.returns-clause-notices
 returns-clause-notices c =
     place_all (source_news c.args.watches.now) c.loop-place.notices.items []
-    c.args.look.now.sources.items c.loop-place.place (rw c.as_slice-is-items.ensures.value at c.loop-place-test.false)
+    c.args.look.now.sources.items c.loop-place.place
+    (rw c.as_slice-is-items.ensures.value at c.loop-place-test.false)
     c.loop-place.invariant.notices

@@ -27,4 +27,5 @@ pub returns : goal.returns
 returns c =
     place_all (path_again c.args.look.now.sources.items c.args.watches.now)
     c.loop-place.notices.items c.args.notices.now.items c.args.look.now.paths.items
-    c.loop-place.place (rw c.as_slice-path-items.ensures.value at c.loop-place-test.false) c.loop-place.invariant.notices
+    c.loop-place.place (rw c.as_slice-path-items.ensures.value at c.loop-place-test.false)
+    c.loop-place.invariant.notices

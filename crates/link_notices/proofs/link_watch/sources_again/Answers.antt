@@ -22,5 +22,6 @@ loop-place-preserved c =
 pub returns-clause-notices : goal.returns-clause-notices
 returns-clause-notices c =
     place_all (source_again c.args.watches.now) c.loop-place.notices.items []
-    c.args.look.now.sources.items c.loop-place.place (rw c.as_slice-items.ensures.value at c.loop-place-test.false)
+    c.args.look.now.sources.items c.loop-place.place
+    (rw c.as_slice-items.ensures.value at c.loop-place-test.false)
     c.loop-place.invariant.notices

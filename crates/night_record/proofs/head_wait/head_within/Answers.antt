@@ -14,6 +14,7 @@ returns-in_err-second-clause-steps g c told =
       rw c.from_residual-in_err-second.ensures
           (inr (second_missing _ _ _ _ c.in_ok-first.ensures.within missing)),
       happened
-          ∙ ap (λ steps. steps ++ rest) (c.in_ok-first.ensures.line (c.line_within-2.ensures.told told))
+          ∙ ap (λ steps. steps ++ rest)
+          (c.in_ok-first.ensures.line (c.line_within-2.ensures.told told))
           ∙ append_assoc (g.L.ComingLines.steps c.args.lines.now) before rest,
     )

@@ -16,8 +16,10 @@ pub returns-clause-greatest : goal.returns-clause-greatest
 returns-clause-greatest c = λ s low high.
     stored c.args.a.now _ c.args.from s c.greater-most.ensures.long c.requires.0 low high
     ∙ c.greater-most.ensures.each (s - c.args.from) (omega arith)
-    ∙ (λ i. max (loaded c.args.a.now c.args.from s low high i) (loaded c.args.b.now c.args.from s low high i))
+    ∙ (λ i. max (loaded c.args.a.now c.args.from s low high i)
+        (loaded c.args.b.now c.args.from s low high i))
 
 pub returns-clause-after : goal.returns-clause-after
 returns-clause-after c = λ s le.
-    get_or-put_chunk_above c.args.from c.args.a.now _ s 0 (omega (arith, c.greater-most.ensures.long))
+    get_or-put_chunk_above c.args.from c.args.a.now _ s 0
+    (omega (arith, c.greater-most.ensures.long))

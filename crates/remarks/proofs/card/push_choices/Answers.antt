@@ -1,4 +1,5 @@
-use Rattle.std.proofs.Common.{◌≡◌, ◌∙◌, ◌++◌, ◌+◌, List, ℕ, ap, arith, flat_map, length, length-take}
+use Rattle.std.proofs.Common.{◌≡◌, ◌∙◌, ◌++◌, ◌+◌, List, ℕ, ap, arith, flat_map, length}
+use Rattle.std.proofs.Common.{length-take}
 use Rattle.std.proofs.Common.{refl, take}
 use Rattle.std.specs.Prelude.{codes, option_to_list}
 use Rattle.std.specs.List.{filter_map}

@@ -7,7 +7,8 @@ abbrev pub invariant-loop-words : goal.invariant-loop-words
 invariant-loop-words l = record {
   fault : triple_fault desk_limits (words_left l.initial.words) ≡ triple_fault desk_limits
       (words_left l.words);
-  triples : triples_in (words_left l.initial.words) ≡ l.kept.items ++ triples_in (words_left l.words);
+  triples : triples_in (words_left l.initial.words) ≡ l.kept.items
+      ++ triples_in (words_left l.words);
 }
 
 abbrev pub decreases-loop-words : goal.decreases-loop-words

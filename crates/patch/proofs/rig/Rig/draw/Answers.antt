@@ -19,5 +19,6 @@ returns c =
     let within : p < 8192 = omega (arith, range.0, range.1) in
     let next : p + 1 ≡ dimmer = omega (arith, range.0) in
     c.draw_slots.ensures p within
-    ∙ slot_from_sources patch c.deref.result.now c.deref-2.result.now levels are c.args.grand p within
+    ∙ slot_from_sources patch c.deref.result.now c.deref-2.result.now levels are c.args.grand p
+        within
     ∙ ap (dimmer_slot patch (listed_level levels) c.args.grand) next)

@@ -33,5 +33,6 @@ pub loop-universe-preserved : goal.loop-universe-preserved
 loop-universe-preserved c = (
   c.loop-universe.invariant.0,
   none_more (lack c.args.self.now) c.args.universes.now c.loop-universe.universe-index 0
-      c.loop-universe-test.true c.loop-universe.invariant.1 (sym c.lack.ensures ∙ c.in_default-lack.is),
+      c.loop-universe-test.true c.loop-universe.invariant.1
+      (sym c.lack.ensures ∙ c.in_default-lack.is),
 )
