@@ -581,18 +581,37 @@ Suits s = ((list_all brings_value s.rules ≡ true) × (is_line s.name ≡ true)
 
 program_suits : Each Suits (built program).subs
 unfolding clap_on_literals
-program_suits =
-    (inl (refl, refl, λ rows h. h),
-    (inl (refl, refl, λ rows h. h),
-    (inl (refl, refl, λ rows h. h),
-    (inl (refl, refl, λ rows h. h),
-    (inl (refl, refl, λ rows h. h),
-    (inl (refl, refl, λ rows h. h),
-    (inl (refl, refl, λ rows h. h),
-    (inl (refl, refl, λ rows h. h),
-    (inl (refl, refl, λ rows h. h),
-    (inl (refl, refl, λ rows h. h),
-    (inr refl, tt)))))))))))
+program_suits = (
+  inl (refl, refl, λ rows h. h),
+  (
+    inl (refl, refl, λ rows h. h),
+    (
+      inl (refl, refl, λ rows h. h),
+      (
+        inl (refl, refl, λ rows h. h),
+        (
+          inl (refl, refl, λ rows h. h),
+          (
+            inl (refl, refl, λ rows h. h),
+            (
+              inl (refl, refl, λ rows h. h),
+              (
+                inl (refl, refl, λ rows h. h),
+                (
+                  inl (refl, refl, λ rows h. h),
+                  (
+                    inl (refl, refl, λ rows h. h),
+                    (inr refl, tt),
+                  ),
+                ),
+              ),
+            ),
+          ),
+        ),
+      ),
+    ),
+  ),
+)
 
 help_enabled : (built program).top.disable_help_subcommand ≡ false
 unfolding clap_on_literals
@@ -619,7 +638,7 @@ level_whole s name words (inl suits) answers work passes =
     (suits.1, suits.2 (rows_after s.rules [] words) (level_texts s words suits.0 passes))
 level_whole s name words (inr help) answers work passes =
     let same : answers_to name (codes "help", []) ≡ true =
-        ap (answers_to name) (sym help) ∙ answers in
+    ap (answers_to name) (sym help) ∙ answers in
     let is : name ≡ codes "help" = sym ((bytes_eq-Decides (codes "help") name).0 (either _ same)) in
     let no : true ≡ false = sym (ap (λ n. bytes_eq n (codes "help")) is ∙ refl) ∙ work in
     cc

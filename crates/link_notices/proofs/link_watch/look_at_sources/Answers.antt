@@ -11,7 +11,7 @@ loop-place-preserved c =
     let place = c.loop-place.place in
     let inside = rw c.as_slice-is-items.ensures.value at c.loop-place-test.true in
     let told = rw (c.source_at-watch.ensures, c.as_slice-is-items.ensures.value)
-        at c.look-notice.ensures.notice in
+    at c.look-notice.ensures.notice in
     record {
       notices = c.push_source.ensures.notices
           ∙ ap (λ n. c.loop-place.notices.items ++ source_notice place n) told

@@ -17,7 +17,7 @@ returns-clause-greatest c = λ s low high.
     stored c.args.a.now _ c.args.from s c.greater-most.ensures.long c.requires.0 low high
     ∙ c.greater-most.ensures.each (s - c.args.from) (omega arith)
     ∙ (λ i. max (loaded c.args.a.now c.args.from s low high i)
-        (loaded c.args.b.now c.args.from s low high i))
+    (loaded c.args.b.now c.args.from s low high i))
 
 pub returns-clause-after : goal.returns-clause-after
 returns-clause-after c = λ s le.

@@ -20,5 +20,5 @@ returns c =
     let next : p + 1 ≡ dimmer = omega (arith, range.0) in
     c.draw_slots.ensures p within
     ∙ slot_from_sources patch c.deref.result.now c.deref-2.result.now levels are c.args.grand p
-        within
+    within
     ∙ ap (dimmer_slot patch (listed_level levels) c.args.grand) next)
