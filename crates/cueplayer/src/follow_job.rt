@@ -18,6 +18,7 @@ use night_lines::{MainNight, Recording};
 use night_record::{RecordHead, main_head};
 use remarks::{Failure, JobFault, Refusal};
 use std::cell::RefCell;
+use std::time::Instant;
 use system_devices::{AppendedLines, CardSender, Network};
 use targets::TargetLink;
 
@@ -27,6 +28,8 @@ struct Main<'a> {
     words: MainWords<'a>,
     head: RecordHead,
     lines: AppendedLines,
+    // When its record was opened.
+    opened: Instant,
 }
 
 /// Follows the night of a main, and goes on by itself when it is silent.
@@ -49,11 +52,17 @@ fn open_main<'a>(
     words: MainWords<'a>,
 ) -> Result<Main<'a>, JobFault> {
     let night = head_of(rt, bill)?;
+    let opened = now(rt)?;
     let Some((first, lines)) = record_lines(rt, words.file, words.patience.into())? else {
         return Err(JobFault::Record(Refusal::no_main()));
     };
     match main_head(&night, first.as_slice()) {
-        Ok(head) => Ok(Main { words, head, lines }),
+        Ok(head) => Ok(Main {
+            words,
+            head,
+            lines,
+            opened,
+        }),
         Err(unfit) => Err(JobFault::Record(Refusal::of_unfit_main(&unfit, &night))),
     }
 }
@@ -68,7 +77,12 @@ fn follow_main<'r, F: Fader>(
 ) -> NightEnd
     requires { CanFollow F.stands_for night.old }
 {
-    let Main { words, head, lines } = main;
+    let Main {
+        words,
+        head,
+        lines,
+        opened,
+    } = main;
     let Beginning {
         network,
         lock: _lock,
@@ -76,25 +90,37 @@ fn follow_main<'r, F: Fader>(
         ..
     } = devices.begin(rt, bill, place_of(night))?;
     booth.watch(LinkTeller::new(rt, &network));
-    let mut leader = MainRecord::new(rt, booth, words, lines, now(rt)?);
+    let mut leader = MainRecord::new(rt, booth, words, lines, opened);
+    play_behind(rt, bill, &network, (words.file, &head), &mut leader, night)
+}
+
+// Takes up what the main has done, follows it on, and goes on by itself when it is silent.
+fn play_behind<F: Fader>(
+    rt: &HostRuntime,
+    bill: &Playbill<'_, '_>,
+    network: &RefCell<Network>,
+    (file, head): (&str, &RecordHead),
+    (leader, night): (&mut MainRecord<'_>, &mut Night<F>),
+) -> NightEnd
+    requires { CanFollow F.stands_for night.old }
+{
     // What stands in the record already is sent to nobody.
-    follow(night, &mut leader, &mut Silent)?;
+    follow(night, leader, &mut Silent)?;
     if night.is_over() {
         return Err(JobFault::Record(Refusal::main_is_over()));
     }
-    let cid = head.cid;
     let followed = MainNight {
-        file: words.file,
-        cid,
+        file,
+        cid: head.cid,
         priority: head.priority,
         place: place_of(night),
     };
-    tell(rt, bill, &network, followed, &mut leader)?;
+    tell(rt, bill, network, followed, leader)?;
     leader.follow(now(rt)?);
-    let mut link = link_of(rt, &network, bill.night);
-    let answer = follow_and_lead(rt, night, &mut leader, &mut link);
+    let mut link = link_of(rt, network, bill.night);
+    let answer = follow_and_lead(rt, night, leader, &mut link);
     leader.booth().finish();
-    Ok(night_end(answer?, bill.show, &network, None))
+    Ok(night_end(answer?, bill.show, network, None))
 }
 
 // Tells whom the night follows.

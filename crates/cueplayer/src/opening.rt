@@ -1,7 +1,5 @@
-ghost use Rattle.std.specs.Prelude.{IfOk, []};
-ghost use Rattle.console.specs.Streams.{Production};
-ghost use Rattle.cmd_live.specs.Beginning.{IsReady};
-ghost use Rattle.cmd_live.specs.Stands.{IsPlayable, StandsFor};
+ghost use Rattle.std.specs.Prelude.{IfOk, OnOk};
+ghost use Rattle.cmd_live.specs.Stands.{IsPlayable};
 ghost use Rattle.cueplayer.specs.Opening.{CanFollow};
 
 use crate::live_job::{LiveWords, Playbill};
@@ -49,12 +47,10 @@ pub fn open_night<F: Fader>(
 ) -> Result<Night<F>, JobFault>
     ensures playable { IfOk result (λ night. IsPlayable F.stands_for night) }
 {
-    match Night::<F>::open(rt.alloc(), bill.show, bill.source, bill.night.base) {
-        Ok(night) if opening.lines.goes_on() => {
-            go_on(night, bill.words, opening.lines.of_text(text), text)
-        }
-        Ok(night) => begin(night, bill),
-        Err(fault) => Err(run_fault(fault, bill.show)),
+    let mut night = new_night(rt, bill)?;
+    match start(&mut night, bill, opening, text) {
+        Ok(()) => Ok(night),
+        Err(fault) => Err(fault),
     }
 }
 
@@ -76,38 +72,53 @@ fn run_fault(fault: RunFault, show: &[u8]) -> JobFault {
     JobFault::Run(Failure::of_run(fault, show, None))
 }
 
+// Begins a night, or goes on with it behind the lines of a record's text.
+fn start<F: Fader>(
+    night: &mut Night<F>,
+    bill: &Playbill<'_, '_>,
+    opening: &NightOpening,
+    text: &[u8],
+) -> Result<(), JobFault>
+    requires { CanFollow F.stands_for night.old }
+    ensures { OnOk result (IsPlayable F.stands_for night.new) }
+{
+    if opening.lines.goes_on() {
+        go_on(night, bill.words, opening.lines.of_text(text), text)
+    } else {
+        begin(night, bill)
+    }
+}
+
 // Begins a night, in a cue where the words name one.
-fn begin<F: Fader>(mut night: Night<F>, bill: &Playbill<'_, '_>) -> Result<Night<F>, JobFault>
-    requires real { (p : Production) × StandsFor F.stands_for p night [] }
-    requires ready { IsReady night }
-    ensures playable { IfOk result (λ night. IsPlayable F.stands_for night) }
+fn begin<F: Fader>(night: &mut Night<F>, bill: &Playbill<'_, '_>) -> Result<(), JobFault>
+    requires { CanFollow F.stands_for night.old }
+    ensures { OnOk result (IsPlayable F.stands_for night.new) }
 {
     let Some(cue) = bill.words.start else {
-        return Ok(night);
+        return Ok(());
     };
     match night.begin_with(cue) {
-        Ok(()) => Ok(night),
+        Ok(()) => Ok(()),
         Err(fault) => Err(run_fault(fault, bill.show)),
     }
 }
 
 // Goes on behind these lines of the text of a record.
 fn go_on<F: Fader>(
-    mut night: Night<F>,
+    night: &mut Night<F>,
     words: LiveWords<'_>,
     lines: &[u8],
     text: &[u8],
-) -> Result<Night<F>, JobFault>
-    requires real { (p : Production) × StandsFor F.stands_for p night [] }
-    requires ready { IsReady night }
-    ensures playable { IfOk result (λ night. IsPlayable F.stands_for night) }
+) -> Result<(), JobFault>
+    requires { CanFollow F.stands_for night.old }
+    ensures { OnOk result (IsPlayable F.stands_for night.new) }
 {
     if let (Some(_), Some(file)) = (words.start, words.record_file) {
         return Err(JobFault::Record(Refusal::has_night(file)));
     }
     match night.take_up(lines, &mut Silent) {
         Ok(_) if night.is_over() => Err(JobFault::Record(Refusal::over())),
-        Ok(_) => Ok(night),
+        Ok(_) => Ok(()),
         Err(line) => {
             let refusal = Refusal::line(line.saturating_add(HEAD_LINES), text);
             Err(JobFault::Record(refusal))

@@ -2,3 +2,4 @@ pub mod Hosts
 pub mod Routes
 pub mod Takers
 pub mod Sockets
+pub mod SocketCalls

@@ -13,12 +13,14 @@
 mod hosts;
 pub mod memory;
 mod path;
+mod socket_call;
 mod sockets;
 mod system;
 mod takers;
 
 pub use hosts::{is_multicast, packet_place, path_place};
 pub use path::{Path, sending_of};
+pub use socket_call::{SocketCall, call_again, send_whole};
 pub use sockets::{is_tie_due, is_tied, other_index, source_address};
 pub use system::{Question, RouteSystem};
 pub use takers::{card_from, first_taker, is_taken_here};
