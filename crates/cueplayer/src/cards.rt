@@ -5,6 +5,7 @@ use cmd_words::{Name, Night};
 use network_tables::{Card, CardRefusal, CardState, CardWord, Cards, HiddenCards, choose};
 use night_lines::sole_target;
 use remarks::{DownCards, Failure, JobFault, Remark, of_card, of_route, of_target};
+use show::Show;
 use show_reader::read_show;
 use system_devices::{Leaving, Network, card_state, read_cards};
 
@@ -18,14 +19,18 @@ pub fn check_targets(rt: &HostRuntime, night: &Night, show: &[u8]) -> Result<(),
     if sole_target(&night.targets).is_some() {
         return Ok(());
     }
-    let loaded = match read_show(rt.alloc(), show) {
-        Ok(loaded) => loaded,
-        Err(fault) => return Err(JobFault::Run(Failure::of_run(fault.into(), show, None))),
-    };
+    match read_show(rt.alloc(), show) {
+        Ok(loaded) => check_universes(night, &loaded.show, show),
+        Err(fault) => Err(JobFault::Run(Failure::of_run(fault.into(), show, None))),
+    }
+}
+
+// Refuses targets that do not suit the universes of a show with this text.
+fn check_universes(night: &Night, show: &Show, text: &[u8]) -> Result<(), JobFault> {
     let mut universes = ArrayVec::<u16, 16>::new();
-    for ordinal in loaded.show.universes().as_slice() {
+    for ordinal in show.universes().as_slice() {
         let Some(universe) = night.base.checked_add(*ordinal) else {
-            return Err(JobFault::Run(Failure::of_run(RunFault::Base, show, None)));
+            return Err(JobFault::Run(Failure::of_run(RunFault::Base, text, None)));
         };
         let _ = universes.try_push(universe);
     }

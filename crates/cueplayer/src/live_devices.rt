@@ -114,9 +114,7 @@ impl<'a> LiveDevices<'a> {
         bill: &Playbill<'_, '_>,
         place: Place,
     ) -> Result<Beginning<'a>, JobFault> {
-        let words = bill.words;
-        self.tell_missing_locks();
-        let recorded = self.recording(words, place);
+        let pause = self.tell_start(rt, bill, place)?;
         let LiveDevices {
             input,
             mut screen,
@@ -125,28 +123,35 @@ impl<'a> LiveDevices<'a> {
             lock,
             network,
         } = self;
-        if words.main.is_none() {
-            let lines = StartLines {
-                night: bill.night,
-                show: bill.show,
-                network: &network,
-                recorded,
-                followed: None,
-            };
-            run_end(lines.tell(rt, &mut screen), bill.show, None)?;
-        }
-        let Pause {
-            until,
-            milliseconds: passed,
-        } = pause_before(rt, record.as_ref(), &opening)?;
-        let record = begin_record(rt, words, record, &opening, &mut screen)?;
-        let input = NightInput::new(input, words.ends_with_input);
+        let record = begin_record(rt, bill.words, record, &opening, &mut screen)?;
+        let input = NightInput::new(input, bill.words.ends_with_input);
         Ok(Beginning {
             network: RefCell::new(network),
             lock,
-            booth: LiveBooth::new(rt, until, input, record, screen),
-            passed,
+            booth: LiveBooth::new(rt, pause.until, input, record, screen),
+            passed: pause.milliseconds,
         })
+    }
+
+    // Tells how the night begins, and answers how long its record had not been written.
+    fn tell_start(
+        &mut self,
+        rt: &HostRuntime,
+        bill: &Playbill<'_, '_>,
+        place: Place,
+    ) -> Result<Pause, Failure> {
+        self.tell_missing_locks();
+        if bill.words.main.is_none() {
+            let lines = StartLines {
+                night: bill.night,
+                show: bill.show,
+                network: &self.network,
+                recorded: self.recording(bill.words, place),
+                followed: None,
+            };
+            run_end(lines.tell(rt, &mut self.screen), bill.show, None)?;
+        }
+        pause_before(rt, self.record.as_ref(), &self.opening)
     }
 
     // Tells of locks that cannot be made.

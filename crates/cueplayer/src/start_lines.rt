@@ -10,7 +10,7 @@ use night_lines::{
 use patch::has_numbers;
 use remarks::{of_name, of_seeming};
 use show::Show;
-use show_reader::read_show;
+use show_reader::{Loaded, read_show};
 use std::env::{self, VarError};
 use system_devices::Network;
 
@@ -36,10 +36,20 @@ impl StartLines<'_, '_, '_> {
     /// `Show`, `Base` or `Memory`. Then nothing is told.
     pub fn tell(&self, rt: &HostRuntime, screen: &mut Screen) -> Result<(), RunFault> {
         let loaded = read_show(rt.alloc(), self.show)?;
+        self.tell_show(rt, &loaded, screen)
+    }
+
+    // Tells this of the show as it was read.
+    fn tell_show(
+        &self,
+        rt: &HostRuntime,
+        loaded: &Loaded,
+        screen: &mut Screen,
+    ) -> Result<(), RunFault> {
         if !has_numbers(&loaded.show, self.night.base) {
             return Err(RunFault::Base);
         }
-        let weight = weigh(rt.alloc(), self.show, &loaded)?;
+        let weight = weigh(rt.alloc(), self.show, loaded)?;
         let is_interruptible = is_interruptible(rt)?;
         let contents = contents_line(loaded.show.counts(), loaded.skipped, weight.notes);
         screen.tell(contents.as_str().as_bytes());

@@ -12,6 +12,7 @@
 
 mod hosts;
 pub mod memory;
+mod memory_call;
 mod path;
 mod socket_call;
 mod sockets;
@@ -19,6 +20,7 @@ mod system;
 mod takers;
 
 pub use hosts::{is_multicast, packet_place, path_place};
+pub use memory_call::MemoryCall;
 pub use path::{Path, sending_of};
 pub use socket_call::{SocketCall, call_again, send_whole};
 pub use sockets::{is_tie_due, is_tied, other_index, source_address};

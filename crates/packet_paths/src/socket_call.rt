@@ -1,6 +1,6 @@
 ghost use Rattle.std.specs.Prelude.{◌≡◌, ℕ, List, [], ◌∷◌, ◌++◌, Result};
 ghost use Rattle.std.specs.declared.io.ErrorKind.{ErrorKind as Kind};
-ghost use Rattle.packet_paths.specs.SocketCalls.{AreAnswers, whole_send};
+ghost use Rattle.packet_paths.specs.SocketCalls.{AreAnswers, is_interruption, whole_send};
 
 use std::io::ErrorKind;
 
@@ -32,12 +32,18 @@ pub fn call_again<C: SocketCall>(socket: &mut C) -> Result<usize, ErrorKind>
         × AreAnswers result answers × (C.answers socket.new ≡ C.answers socket.old ++ answers) }
 {
     for _ in 0..u64::MAX {
-        match socket.call() {
-            Err(ErrorKind::Interrupted) => {}
-            answer => return answer,
+        let answer = socket.call();
+        if !is_interruption(answer) {
+            return answer;
         }
     }
     Err(ErrorKind::Interrupted)
+}
+
+fn is_interruption(answer: Result<usize, ErrorKind>) -> bool
+    ensures { result ≡ is_interruption answer }
+{
+    matches!(answer, Err(ErrorKind::Interrupted))
 }
 
 /// Sends a datagram of so many bytes whole, by this call.
@@ -52,10 +58,15 @@ pub fn send_whole<C: SocketCall>(socket: &mut C, length: usize) -> Result<(), Er
         × (result ≡ whole_send length answer)
         × (C.answers socket.new ≡ C.answers socket.old ++ answers) }
 {
-    let count = call_again(socket)?;
-    if count == length {
-        Ok(())
-    } else {
-        Err(ErrorKind::WriteZero)
+    whole_send(length, call_again(socket))
+}
+
+fn whole_send(length: usize, answer: Result<usize, ErrorKind>) -> Result<(), ErrorKind>
+    ensures { result ≡ whole_send length answer }
+{
+    match answer {
+        Ok(count) if count == length => Ok(()),
+        Ok(_) => Err(ErrorKind::WriteZero),
+        Err(kind) => Err(kind),
     }
 }

@@ -1,7 +1,7 @@
 use crate::cards::{card_index, card_state, card_to};
 use crate::neighbors::Neighbors;
 use crate::routes::is_of_this_machine;
-use crate::socket::{AddressText, SocketFault, bind, send_whole, text_of};
+use crate::socket::{AddressText, SocketFault, bind, send_datagram, text_of};
 use crate::system_routes::SystemRoutes;
 use crate::tied_socket::TiedSocket;
 use arrayvec::ArrayVec;
@@ -69,7 +69,7 @@ impl Source {
     fn send(&self, unbound: &UdpSocket, bytes: &[u8], to: Address) -> Result<(), ErrorKind> {
         match &self.tied {
             Some(tied) if !is_multicast(to.host) => tied.send(bytes, to.host, to.port),
-            _ => send_whole(
+            _ => send_datagram(
                 self.socket.as_ref().unwrap_or(unbound),
                 bytes,
                 socket_address(to),
@@ -281,7 +281,7 @@ impl Network {
                 source.send(&self.unbound, bytes, to)?;
                 Err(kind)
             }
-            _ => send_whole(&self.unbound, bytes, socket_address(to)),
+            _ => send_datagram(&self.unbound, bytes, socket_address(to)),
         }
     }
 }

@@ -2,6 +2,7 @@ ghost use Rattle.std.specs.Prelude.{[]};
 
 use arrayvec::ArrayString;
 use devices::{Datagrams, LinkFault};
+use packet_paths::{SocketCall, call_again, send_whole};
 use std::fmt::Write;
 use std::io::ErrorKind;
 use std::net::{IpAddr, Net, SocketAddr, UdpSocket};
@@ -48,38 +49,74 @@ impl Datagrams for ReceivingSocket {
 
     ghost tape = { λ _. record { items = []; failures = 0 } };
 
-    // `recv` would not take an empty datagram off the socket. A call that a signal interrupted is
-    // made again.
     fn receive(&mut self, buf: &mut [u8; 1500]) -> Result<usize, LinkFault> {
-        for _ in 0..u64::MAX {
-            match self.inner.recv_from(buf) {
-                Ok((count, _)) => return Ok(count),
-                Err(error) if error.kind() == ErrorKind::Interrupted => {}
-                Err(error) => {
-                    self.failure = Some(error.kind());
-                    return Err(LinkFault);
-                }
+        let socket = &self.inner;
+        match call_again(&mut DatagramReceipt { socket, buf }) {
+            Ok(count) => Ok(count),
+            Err(kind) => {
+                self.failure = Some(kind);
+                Err(LinkFault)
             }
         }
-        Err(LinkFault)
     }
 }
 
-/// Sends a datagram whole. A call that a signal interrupted sent nothing, and is made again.
+// A receipt. It does not tell.
+#[derive(Drop)]
+struct DatagramReceipt<'a> {
+    socket: &'a UdpSocket,
+    buf: &'a mut [u8; 1500],
+}
+
+impl SocketCall for DatagramReceipt<'_> {
+    ghost tells = { λ _. ⊥ };
+
+    ghost answers = { λ _. [] };
+
+    // `recv` would not take an empty datagram off the socket.
+    fn call(&mut self) -> Result<usize, ErrorKind> {
+        match self.socket.recv_from(self.buf) {
+            Ok((count, _)) => Ok(count),
+            Err(error) => Err(error.kind()),
+        }
+    }
+}
+
+// A send. It does not tell.
+#[derive(Drop)]
+struct DatagramSend<'a> {
+    socket: &'a UdpSocket,
+    bytes: &'a [u8],
+    address: SocketAddr,
+}
+
+impl SocketCall for DatagramSend<'_> {
+    ghost tells = { λ _. ⊥ };
+
+    ghost answers = { λ _. [] };
+
+    fn call(&mut self) -> Result<usize, ErrorKind> {
+        let sent = self.socket.send_to(self.bytes, self.address);
+        sent.map_err(|error| error.kind())
+    }
+}
+
+/// Sends a datagram whole.
 ///
 /// # Errors
 ///
 /// The system's reason.
-pub fn send_whole(socket: &UdpSocket, bytes: &[u8], address: SocketAddr) -> Result<(), ErrorKind> {
-    for _ in 0..u64::MAX {
-        match socket.send_to(bytes, address) {
-            Ok(count) if count == bytes.len() => return Ok(()),
-            Err(error) if error.kind() == ErrorKind::Interrupted => {}
-            Err(error) => return Err(error.kind()),
-            Ok(_) => return Err(ErrorKind::WriteZero),
-        }
-    }
-    Err(ErrorKind::Interrupted)
+pub fn send_datagram(
+    socket: &UdpSocket,
+    bytes: &[u8],
+    address: SocketAddr,
+) -> Result<(), ErrorKind> {
+    let mut send = DatagramSend {
+        socket,
+        bytes,
+        address,
+    };
+    send_whole(&mut send, bytes.len())
 }
 
 /// An address and its port: there is room for four numbers of three digits and one of five.

@@ -1,5 +1,5 @@
 use crate::cards::card_index;
-use crate::socket::send_whole;
+use crate::socket::send_datagram;
 use packet_paths::{is_tied, other_index};
 use std::io::ErrorKind;
 use std::net::{IpAddr, Ipv4Addr, Ipv6Addr, SocketAddr, SocketAddrV6, UdpSocket};
@@ -35,7 +35,7 @@ impl TiedSocket {
     ///
     /// The system's reason.
     pub fn send(&self, bytes: &[u8], host: [u8; 4], port: u16) -> Result<(), ErrorKind> {
-        send_whole(&self.socket, bytes, in_version_6(host, port))
+        send_datagram(&self.socket, bytes, in_version_6(host, port))
     }
 }
 

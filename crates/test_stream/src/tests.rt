@@ -8,5 +8,6 @@ mod queue;
 mod receiver;
 mod replies;
 mod routes;
+mod socket;
 mod source;
 mod writers;

@@ -1,9 +1,14 @@
-use Rattle.std.proofs.Common.{◌≡◌, ◌++◌}
-use Rattle.packet_paths.specs.SocketCalls.{interruptions}
+use Rattle.std.proofs.Common.{◌≡◌, ◌++◌, ℕ, List, length}
+use Rattle.std.specs.Prelude.{Result}
+use Rattle.std.specs.declared.io.ErrorKind.{ErrorKind}
+use Rattle.packet_paths.specs.SocketCalls.{AreInterrupted}
 use Rattle.packet_paths.proofs.socket_call.call_again.Given as goal
 
+-- so many answers came, each of them an interruption
 abbrev pub invariant-loop : goal.invariant-loop
 invariant-loop g l =
     let C = g.C.SocketCall in
     (C.tells l.socket → C.tells l.fn.socket)
-    × (C.tells l.socket → C.answers l.socket ≡ C.answers l.fn.socket ++ interruptions l.counter)
+    × ((before : List (Result ℕ ErrorKind)) × AreInterrupted before
+    × (length before ≡ l.counter)
+    × (C.tells l.socket → C.answers l.socket ≡ C.answers l.fn.socket ++ before))
