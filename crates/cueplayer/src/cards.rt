@@ -2,12 +2,12 @@ use crate::device_failure::of_socket_fault;
 use arrayvec::ArrayVec;
 use cmd_faults::RunFault;
 use cmd_words::{Name, Night};
-use network_tables::{Card, CardRefusal, CardState, CardWord, Cards, HiddenCards, choose};
+use network_tables::{CardRefusal, Cards, HiddenCards};
 use night_lines::sole_target;
 use remarks::{DownCards, Failure, JobFault, Remark, of_card, of_route, of_target};
 use show::Show;
 use show_reader::read_show;
-use system_devices::{Leaving, Network, card_state, read_cards};
+use system_devices::{Leaving, Network, SystemCards, hidden_cards, named_source, read_cards};
 
 /// Refuses targets that do not suit the universes of a show.
 ///
@@ -82,31 +82,18 @@ fn source_of(rt: &HostRuntime, night: &Night) -> Result<Option<[u8; 4]>, JobFaul
         return Ok(None);
     };
     let cards = read_cards(rt);
-    let word = CardWord::read(named);
-    let row = word.row_of(&cards);
-    let state = match &row {
-        Some(card) => state_of(rt, card),
-        None => CardState::Up,
-    };
-    match choose(&word, row, state) {
+    let mut system = SystemCards::new(rt);
+    match named_source(&mut system, named, &cards) {
         Ok(address) => Ok(Some(address)),
-        Err(refusal) => Err(JobFault::Words(of_refusal(rt, named, refusal, &cards))),
-    }
-}
-
-fn state_of(rt: &HostRuntime, card: &Card) -> CardState {
-    match &card.name {
-        Some(name) => card_state(rt, name.as_str()),
-        None => CardState::Up,
+        Err(refusal) => {
+            let hidden = hidden_cards(&mut system, cards.as_slice());
+            Err(JobFault::Words(of_refusal(named, refusal, &cards, &hidden)))
+        }
     }
 }
 
 // Why a card that was named cannot be sent by.
-fn of_refusal(rt: &HostRuntime, named: &str, refusal: CardRefusal, cards: &Cards) -> Remark {
-    let mut hidden = HiddenCards::new();
-    for card in cards.as_slice() {
-        hidden.take_up(card, state_of(rt, card));
-    }
+fn of_refusal(named: &str, refusal: CardRefusal, cards: &Cards, hidden: &HiddenCards) -> Remark {
     let names = hidden.names.as_str();
     let count = hidden.count;
     of_card(named, refusal, cards, DownCards { names, count })

@@ -1,1 +1,2 @@
 mod BeforePackets
+mod CardAnswers

@@ -3,3 +3,4 @@ pub mod Routes
 pub mod Takers
 pub mod Sockets
 pub mod SocketCalls
+pub mod AskedCards

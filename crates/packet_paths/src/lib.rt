@@ -1,7 +1,8 @@
 //! By which paths the packets of a night leave this machine: which one a packet has, where its
 //! route leads, how long a look at that counts, and who takes its packets first.
 //!
-//! What is known of the system is asked of a [`RouteSystem`], and the contracts say in what order.
+//! What is known of the system is asked of a [`RouteSystem`], or of a [`CardSystem`] where it is of
+//! the cards, and the contracts say in what order.
 //!
 //! ```
 //! let mut path = Path::new(host, Some(0), true);
@@ -10,6 +11,8 @@
 //! ```
 #![tactic(auto)]
 
+mod asked_cards;
+mod card_system;
 mod hosts;
 pub mod memory;
 mod memory_call;
@@ -19,6 +22,8 @@ mod sockets;
 mod system;
 mod takers;
 
+pub use asked_cards::{card_of, hidden_cards, named_source};
+pub use card_system::{CardQuestion, CardSystem};
 pub use hosts::{is_multicast, packet_place, path_place};
 pub use memory_call::MemoryCall;
 pub use path::{Path, sending_of};

@@ -1,10 +1,13 @@
 //! A system over memory, which tells what it was asked.
 
-ghost use Rattle.std.specs.Prelude.{◌≡◌, false, None, [], ◌∷◌, ◌++◌};
+ghost use Rattle.std.specs.Prelude.{◌≡◌, false, None, [], ◌∷◌, ◌++◌, option_and_then};
+ghost use Rattle.network_tables.specs.Tables.{of_name};
+ghost use Rattle.packet_paths.specs.declared.card_system.CardQuestion.TheVariants as card_question;
 ghost use Rattle.packet_paths.specs.declared.system.Question.TheVariants as question;
 
+use crate::card_system::{CardQuestion, CardSystem};
 use crate::system::{Question, RouteSystem};
-use network_tables::CardName;
+use network_tables::{CardName, CardState, Cards};
 use std::alloc::Global;
 
 /// A system over memory. It stops telling where memory for a question is refused.
@@ -122,5 +125,108 @@ impl RouteSystem for MemorySystem {
         let neighbor = self.neighbor;
         self.keep(Question::Neighbor(host, address, neighbor));
         neighbor
+    }
+}
+
+/// The cards of a system over memory. It stops telling where memory for a question is refused.
+#[derive(Drop)]
+pub struct MemoryCards {
+    /// How each card is.
+    pub state: CardState,
+    /// The address that packets come from by a card: that of the first row of its name.
+    pub by_card: Cards,
+    /// The address that packets to any host would come from.
+    pub source: Option<[u8; 4]>,
+    /// The questions, the first first.
+    pub questions: Vec<CardQuestion>,
+    /// Memory was refused: questions are missing.
+    pub full: bool,
+}
+
+impl MemoryCards {
+    /// Cards in this state that were not asked yet, and that tell no address to send from.
+    pub fn new(alloc: Global, state: CardState) -> Self
+        ensures state { result.state ≡ state }
+        ensures by_card { result.by_card.rows.items ≡ [] }
+        ensures source { result.source ≡ None }
+        ensures questions { result.questions.items ≡ [] }
+        ensures tells { result.full ≡ false }
+    {
+        MemoryCards {
+            state,
+            by_card: Cards::new(),
+            source: None,
+            questions: Vec::new(alloc),
+            full: false,
+        }
+    }
+
+    fn keep(&mut self, question: CardQuestion)
+        ensures told { self.new.full ≡ false → self.old.full ≡ false }
+        ensures question { self.new.full ≡ false
+            → self.new.questions.items ≡ self.old.questions.items ++ question ∷ [] }
+        ensures same { self.new ≡ record self.old {
+          questions = self.new.questions;
+          full = self.new.full;
+        } }
+    {
+        if self.questions.push(question).is_err() {
+            self.full = true;
+        }
+    }
+}
+
+impl CardSystem for MemoryCards {
+    ghost tells = { λ m. m.full ≡ false };
+
+    ghost questions = { λ m. m.questions.items };
+
+    fn card_state(&mut self, card: CardName) -> CardState
+        ensures answer { result ≡ self.old.state }
+        ensures same { self.new ≡ record self.old {
+          questions = self.new.questions;
+          full = self.new.full;
+        } }
+        ensures told { self.new.full ≡ false → self.old.full ≡ false }
+        ensures question { self.new.full ≡ false → self.new.questions.items
+            ≡ self.old.questions.items ++ card_question.State card result ∷ [] }
+    {
+        let state = self.state;
+        self.keep(CardQuestion::State(card, state));
+        state
+    }
+
+    fn source_by(&mut self, card: CardName, host: [u8; 4]) -> Option<[u8; 4]>
+        ensures answer { result ≡ option_and_then (λ row. row.address)
+            (of_name card.bytes self.old.by_card.rows.items) }
+        ensures same { self.new ≡ record self.old {
+          questions = self.new.questions;
+          full = self.new.full;
+        } }
+        ensures told { self.new.full ≡ false → self.old.full ≡ false }
+        ensures question { self.new.full ≡ false → self.new.questions.items
+            ≡ self.old.questions.items ++ card_question.SourceBy card host result ∷ [] }
+    {
+        let source = match self.by_card.of_name(card.as_str()) {
+            Some(row) => row.address,
+            None => None,
+        };
+        self.keep(CardQuestion::SourceBy(card, host, source));
+        source
+    }
+
+    fn source_to(&mut self, host: [u8; 4]) -> Option<[u8; 4]>
+        ensures answer { result ≡ self.old.source }
+        ensures same { self.new ≡ record self.old {
+          questions = self.new.questions;
+          full = self.new.full;
+        } }
+        ensures told { self.new.full ≡ false → self.old.full ≡ false }
+        ensures question { self.new.full ≡ false → self.new.questions.items
+            ≡ self.old.questions.items ++ card_question.Source host result ∷ [] }
+    {
+        let source = self.source;
+        self.keep(CardQuestion::Source(host, source));
+        source
     }
 }

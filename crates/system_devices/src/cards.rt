@@ -1,12 +1,11 @@
-use crate::routes::{Routes, route_to, source_to};
+use crate::routes::{Routes, route_to};
+use crate::system_cards::SystemCards;
 use crate::system_lines::{SystemLine, SystemLines, first_line};
-use crate::tied_socket::source_by;
 use arrayvec::{ArrayString, ArrayVec};
 use network_tables::{
-    CardName, CardState, Cards, Holder, MOST_CARDS, OwnAddresses, Route, TreeLine, card_among,
-    holder_of, host_beside, is_widest, row_name,
+    CardName, CardState, Cards, MOST_CARDS, OwnAddresses, Route, TreeLine, row_name,
 };
-use packet_paths::card_from;
+use packet_paths::{card_from, card_of};
 use std::fmt::Write;
 
 // A line for each card.
@@ -15,15 +14,14 @@ const NAMES: &str = "/proc/net/dev";
 // The tree of routes names each address of this machine.
 const TREE: &str = "/proc/net/fib_trie";
 
-const LOOP: &str = "lo";
-
 /// Reads the network cards of this machine from the system's files.
 pub fn read_cards(rt: &HostRuntime) -> Cards {
     let networks = read_networks(rt);
     let own = read_addresses(rt);
+    let mut system = SystemCards::new(rt);
     let mut cards = Cards::new();
     for address in own.as_slice() {
-        let name = card_of(rt, *address, own.as_slice(), networks.as_slice());
+        let name = card_of(&mut system, *address, own.as_slice(), networks.as_slice());
         cards.add(name, Some(*address));
     }
     let mut lines = SystemLines::open(rt, NAMES);
@@ -63,42 +61,6 @@ fn read_networks(rt: &HostRuntime) -> ArrayVec<Route, MOST_CARDS> {
         }
     }
     networks
-}
-
-// The card that has this address of the machine's own.
-fn card_of(
-    rt: &HostRuntime,
-    address: [u8; 4],
-    own: &[[u8; 4]],
-    networks: &[Route],
-) -> Option<CardName> {
-    match holder_of(address, networks) {
-        Holder::Loop => CardName::from(LOOP).ok(),
-        Holder::Card(name) => Some(name),
-        Holder::OneOf {
-            network,
-            first,
-            other,
-        } => {
-            let host = host_beside(network, own)?;
-            let asked = ask_cards(rt, address, host, networks);
-            card_among(address, &asked, source_to(rt, host), first, other)
-        }
-        Holder::Unknown => None,
-    }
-}
-
-// The cards at the network of an address, each with the address that the system sends from by it to
-// a host there.
-fn ask_cards(rt: &HostRuntime, address: [u8; 4], host: [u8; 4], networks: &[Route]) -> Cards {
-    let mut asked = Cards::new();
-    for network in networks {
-        if is_widest(address, networks, network) {
-            let source = source_by(rt, network.card.as_str(), host);
-            asked.add(Some(network.card), source);
-        }
-    }
-    asked
 }
 
 /// The card of an address of this machine that packets to a host come from.

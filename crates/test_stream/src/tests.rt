@@ -1,3 +1,4 @@
+mod cards;
 mod following;
 mod head;
 mod lock;
