@@ -1,2 +1,3 @@
 mod BeforePackets
 mod CardAnswers
+mod SocketAnswers

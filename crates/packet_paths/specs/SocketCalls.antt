@@ -24,6 +24,11 @@ AreAnswers answer answers =
     ⊎ ((answer ≡ Err kind.Interrupted) × AreInterrupted answers
     × (length answers ≡ 18446744073709551615))
 
+-- so many bytes were sent or received: none where the call failed
+abbrev pub byte_count : Result ℕ ErrorKind → ℕ
+byte_count (Ok count) = count
+byte_count (Err reason) = 0
+
 -- a datagram is sent whole, or it is not sent
 abbrev pub whole_send : ℕ → Result ℕ ErrorKind → Result (Unit {0}) ErrorKind
 whole_send length (Ok count) = if count == length then Ok tt else Err kind.WriteZero

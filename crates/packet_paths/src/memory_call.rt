@@ -1,6 +1,7 @@
 ghost use Rattle.std.specs.Prelude.{◌≡◌, ◌-◌, false, [], ◌∷◌, ◌++◌, nat_eq, if◌then◌else◌};
-ghost use Rattle.std.specs.Prelude.{Err};
+ghost use Rattle.std.specs.Prelude.{◌≤◌, Err, IfOk};
 ghost use Rattle.std.specs.declared.io.ErrorKind.TheVariants.{Interrupted};
+ghost use Rattle.packet_paths.specs.SocketCalls.{byte_count};
 
 use crate::socket_call::SocketCall;
 use std::alloc::Global;
@@ -34,6 +35,17 @@ impl MemoryCall {
             full: false,
         }
     }
+
+    fn next_answer(&self) -> Result<usize, ErrorKind>
+        ensures within { IfOk result (λ count. count ≤ byte_count self.now.answer) }
+        ensures is { result ≡ (if nat_eq self.now.interruptions 0 then self.now.answer
+            else Err Interrupted) }
+    {
+        if self.interruptions > 0 {
+            return Err(ErrorKind::Interrupted);
+        }
+        self.answer
+    }
 }
 
 impl SocketCall for MemoryCall {
@@ -41,7 +53,10 @@ impl SocketCall for MemoryCall {
 
     ghost answers = { λ m. m.answers.items };
 
+    ghost most = { λ m. byte_count m.answer };
+
     fn call(&mut self) -> Result<usize, ErrorKind>
+        ensures within { IfOk result (λ count. count ≤ byte_count self.old.answer) }
         ensures is { result ≡ (if nat_eq self.old.interruptions 0 then self.old.answer
             else Err Interrupted) }
         ensures interruptions { self.new.interruptions ≡ self.old.interruptions - 1 }
@@ -50,11 +65,7 @@ impl SocketCall for MemoryCall {
         ensures answer { self.new.full ≡ false
             → self.new.answers.items ≡ self.old.answers.items ++ result ∷ [] }
     {
-        let answer = if self.interruptions == 0 {
-            self.answer
-        } else {
-            Err(ErrorKind::Interrupted)
-        };
+        let answer = self.next_answer();
         self.interruptions = self.interruptions.saturating_sub(1);
         if self.answers.push(answer).is_err() {
             self.full = true;

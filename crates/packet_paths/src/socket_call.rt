@@ -1,4 +1,4 @@
-ghost use Rattle.std.specs.Prelude.{◌≡◌, ℕ, List, [], ◌∷◌, ◌++◌, Result};
+ghost use Rattle.std.specs.Prelude.{◌≡◌, ◌≤◌, ℕ, List, [], ◌∷◌, ◌++◌, IfOk, Result};
 ghost use Rattle.std.specs.declared.io.ErrorKind.{ErrorKind as Kind};
 ghost use Rattle.packet_paths.specs.SocketCalls.{AreAnswers, is_interruption, whole_send};
 
@@ -14,8 +14,13 @@ pub trait SocketCall {
     /// The answers, the first first.
     ghost answers: { Self → List (Result ℕ Kind) };
 
+    /// So many bytes a datagram has at most.
+    ghost most: { Self → ℕ };
+
     /// Makes the call once: how many bytes were sent or received, or the system's reason.
     fn call(&mut self) -> Result<usize, ErrorKind>
+        ensures within { IfOk result (λ count. count ≤ most self.old) }
+        ensures most { most self.new ≡ most self.old }
         ensures told { tells self.new → tells self.old }
         ensures answer { tells self.new → answers self.new ≡ answers self.old ++ result ∷ [] };
 }
@@ -27,6 +32,7 @@ pub trait SocketCall {
 ///
 /// The system's reason.
 pub fn call_again<C: SocketCall>(socket: &mut C) -> Result<usize, ErrorKind>
+    ensures within { IfOk result (λ count. count ≤ C.most socket.old) }
     ensures told { C.tells socket.new → C.tells socket.old }
     ensures answers { C.tells socket.new → (answers : List (Result ℕ Kind))
         × AreAnswers result answers × (C.answers socket.new ≡ C.answers socket.old ++ answers) }

@@ -73,6 +73,8 @@ impl SocketCall for DatagramReceipt<'_> {
 
     ghost answers = { λ _. [] };
 
+    ghost most = { λ _. 1500 };
+
     // `recv` would not take an empty datagram off the socket.
     fn call(&mut self) -> Result<usize, ErrorKind> {
         match self.socket.recv_from(self.buf) {
@@ -94,6 +96,8 @@ impl SocketCall for DatagramSend<'_> {
     ghost tells = { λ _. ⊥ };
 
     ghost answers = { λ _. [] };
+
+    ghost most = { λ _. 18446744073709551615 };
 
     fn call(&mut self) -> Result<usize, ErrorKind> {
         let sent = self.socket.send_to(self.bytes, self.address);

@@ -7,10 +7,11 @@ use Rattle.packet_paths.proofs.socket_call.call_again.Goals as goal
 
 pub loop-preserved : goal.loop-preserved
 loop-preserved g c =
-    let inside = c.loop.invariant.1 in
+    let inside = c.loop.invariant.2 in
     let before = inside.0 in
     let answer = c.call-answer.result in (
-      λ told. c.loop.invariant.0 (c.call-answer.ensures.told told),
+      c.call-answer.ensures.most ∙ c.loop.invariant.0,
+      λ told. c.loop.invariant.1 (c.call-answer.ensures.told told),
       (
         before ++ answer ∷ [],
         grind (arith, common_steps, list_all-append is_interruption before (answer ∷ [])),

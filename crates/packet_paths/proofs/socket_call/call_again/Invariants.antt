@@ -8,7 +8,8 @@ use Rattle.packet_paths.proofs.socket_call.call_again.Given as goal
 abbrev pub invariant-loop : goal.invariant-loop
 invariant-loop g l =
     let C = g.C.SocketCall in
-    (C.tells l.socket → C.tells l.fn.socket)
+    (C.most l.socket ≡ C.most l.fn.socket)
+    × (C.tells l.socket → C.tells l.fn.socket)
     × ((before : List (Result ℕ ErrorKind)) × AreInterrupted before
     × (length before ≡ l.counter)
     × (C.tells l.socket → C.answers l.socket ≡ C.answers l.fn.socket ++ before))
