@@ -1,9 +1,11 @@
 //! The files of a night: whose a lock is, where the lock of a CID lies, how often a lock is asked
-//! for, and which files a record is kept in. Nothing here opens a file.
+//! for, which files a record is kept in, and in which order such a file is opened, looked at,
+//! locked and read. Nothing here opens a file: the system does, by the traits.
 //!
 //! ```
 //! let answer = ask_for_lock(&mut lock);
 //! let has_lock = lock_to_open(answer)?;
+//! let is_locked = open_record(&mut file, RecordUse::Begin)?;
 //! ```
 #![tactic(auto)]
 
@@ -11,11 +13,16 @@ mod lock_list;
 mod lock_place;
 mod lock_request;
 pub mod memory;
+mod record_opening;
 mod record_use;
 
 pub use lock_list::{descriptor_in, locking_process, node_text};
 pub use lock_place::{PathText, lock_folder, lock_path, runtime_folder};
 pub use lock_request::{FileLock, LockRequest, LockStep, ask_for_lock};
+pub use record_opening::{
+    FileFault, FoundFile, NamedFile, OpeningFault, RecordStep, RecordSystem, open_record,
+    take_over_record,
+};
 pub use record_use::{
     FileAccess, RecordRefusal, RecordUse, is_unused, lock_to_open, lock_to_take_over,
 };

@@ -1,10 +1,13 @@
-//! A lock over memory, which tells its steps.
+//! A lock over memory, and the file of a record: they tell their steps.
+
+mod record_file;
 
 ghost use Rattle.std.specs.Prelude.{◌≡◌, ◌-◌, false, [], ◌∷◌, ◌++◌, nat_eq, if◌then◌else◌};
 ghost use Rattle.night_files.specs.declared.lock_request.FileLock.TheVariants.{Theirs};
 ghost use Rattle.night_files.specs.declared.lock_request.LockStep.TheVariants.{Ask, Sleep};
 
 use crate::lock_request::{FileLock, LockRequest, LockStep};
+pub use record_file::{FileAnswers, MemoryFile};
 use std::alloc::Global;
 
 /// A lock over memory. It stops telling where memory for a step is refused.

@@ -1,3 +1,5 @@
+ghost use Rattle.std.specs.Prelude.{[]};
+
 use crate::bounded_output::{BoundedOutput, Names};
 use crate::fault::DeviceFault;
 use crate::lock_holder::holder;
@@ -5,9 +7,12 @@ use crate::record::Record;
 use crate::record_lock::{is_same, lock, lock_at_once};
 use byte_reading::{Unread, first_bytes};
 use line_queue::Notice;
-use night_files::{RecordRefusal, RecordUse, lock_to_open, lock_to_take_over};
+use night_files::{
+    FileAccess, FileFault, FileLock, FoundFile, NamedFile, OpeningFault, RecordRefusal,
+    RecordSystem, RecordUse, open_record, take_over_record,
+};
 use night_record::silence_of;
-use std::fs::{File, OpenOptions, metadata};
+use std::fs::{File, Metadata, OpenOptions, metadata};
 use std::io::{Error, ErrorKind};
 use std::os::unix::fs::FileTypeExt;
 use std::time::{Instant, SystemTime};
@@ -20,6 +25,8 @@ const NAMES: Names = Names {
         lines: "lines",
     },
 };
+
+const NOT_OPEN: FileFault = FileFault::System(ErrorKind::NotFound);
 
 /// Why a record cannot be kept.
 #[derive(Clone, Copy, Debug, PartialEq, Eq)]
@@ -40,10 +47,20 @@ pub enum RecordFault {
     Memory,
 }
 
+impl From<FileFault> for RecordFault {
+    fn from(fault: FileFault) -> RecordFault {
+        match fault {
+            FileFault::System(kind) => RecordFault::File(kind),
+            FileFault::Memory => RecordFault::Memory,
+        }
+    }
+}
+
 /// The file of a record before a night begins or goes on in it. It is locked, and as it was.
 #[derive(Drop)]
 pub struct RecordFile {
-    file: File,
+    // There is none before it is opened.
+    file: Option<File>,
     text: Vec<u8>,
     pause: Option<Pause>,
     has_lock: bool,
@@ -71,18 +88,7 @@ impl RecordFile {
         } else {
             RecordUse::Begin
         };
-        let file = open_file(rt, name, purpose).map_err(of_system)?;
-        let found = file.metadata().map_err(of_system)?;
-        let mut record = RecordFile::new(rt, file);
-        record.accept(rt, purpose.refusal_of(found.is_file(), found.len()))?;
-        if found.is_file() {
-            record.has_lock = record.answer(rt, lock_to_open(lock(rt, &record.file)))?;
-            record.accept_once_locked(rt, name, purpose)?;
-        }
-        if resumes {
-            record.read(rt)?;
-        }
-        Ok(record)
+        RecordFile::open_for(rt, name, purpose)
     }
 
     /// Opens the file of a night's record that another process keeps, without its lock.
@@ -91,14 +97,18 @@ impl RecordFile {
     ///
     /// As [`RecordFault`] lists them.
     pub fn watch(rt: &HostRuntime, name: &str) -> Result<Self, RecordFault> {
-        let file = open_file(rt, name, RecordUse::Watch).map_err(of_system)?;
-        let found = file.metadata().map_err(of_system)?;
-        let mut record = RecordFile::new(rt, file);
-        record.accept(
-            rt,
-            RecordUse::Watch.refusal_of(found.is_file(), found.len()),
-        )?;
-        record.has_lock = false;
+        RecordFile::open_for(rt, name, RecordUse::Watch)
+    }
+
+    fn open_for(rt: &HostRuntime, name: &str, purpose: RecordUse) -> Result<Self, RecordFault> {
+        let mut record = RecordFile {
+            file: None,
+            text: Vec::new(rt.alloc()),
+            pause: None,
+            has_lock: false,
+        };
+        let answer = open_record(&mut SystemFile::of(rt, name, &mut record), purpose);
+        record.take_answer(rt, answer)?;
         Ok(record)
     }
 
@@ -109,72 +119,43 @@ impl RecordFile {
     ///
     /// `NoLocks` where the file system has none; `File` as [`RecordFault`] lists it.
     pub fn take_over(&mut self, rt: &HostRuntime, name: &str) -> Result<bool, RecordFault> {
-        self.has_lock = self.answer(rt, lock_to_take_over(lock_at_once(rt, &self.file)))?;
-        if self.has_lock {
-            self.accept_once_locked(rt, name, RecordUse::Watch)?;
-            self.pause = Some(pause_of(rt, &self.file).map_err(of_system)?);
-        }
+        let answer = take_over_record(&mut SystemFile::of(rt, name, self));
+        self.take_answer(rt, answer)?;
         Ok(self.has_lock)
     }
 
-    fn new(rt: &HostRuntime, file: File) -> Self {
-        RecordFile {
-            file,
-            text: Vec::new(rt.alloc()),
-            pause: None,
-            has_lock: true,
-        }
-    }
-
-    fn accept(&self, rt: &HostRuntime, refusal: Option<RecordRefusal>) -> Result<(), RecordFault> {
-        match refusal {
-            None => Ok(()),
-            Some(refusal) => Err(self.fault_of(rt, refusal)),
-        }
-    }
-
-    fn answer(
-        &self,
+    fn take_answer(
+        &mut self,
         rt: &HostRuntime,
-        lock: Result<bool, RecordRefusal>,
-    ) -> Result<bool, RecordFault> {
-        match lock {
-            Ok(has_lock) => Ok(has_lock),
-            Err(refusal) => Err(self.fault_of(rt, refusal)),
-        }
-    }
-
-    fn accept_once_locked(
-        &self,
-        rt: &HostRuntime,
-        name: &str,
-        purpose: RecordUse,
+        answer: Result<bool, OpeningFault>,
     ) -> Result<(), RecordFault> {
-        let named = metadata(rt, name).map_err(of_system)?;
-        let found = self.file.metadata().map_err(of_system)?;
-        let is_named = is_same(&named, &found);
-        let refusal = purpose.refusal_once_locked(is_named, found.is_file(), found.len());
-        self.accept(rt, refusal)
+        match answer {
+            Ok(has_lock) => self.has_lock = has_lock,
+            Err(OpeningFault::File(fault)) => return Err(RecordFault::from(fault)),
+            Err(OpeningFault::Refused(refusal)) => return Err(self.fault_of(rt, refusal)),
+        }
+        Ok(())
     }
 
     fn fault_of(&self, rt: &HostRuntime, refusal: RecordRefusal) -> RecordFault {
         match refusal {
             RecordRefusal::NotEmpty => RecordFault::NotEmpty,
             RecordRefusal::NoFile => RecordFault::NoFile,
-            RecordRefusal::InUse => RecordFault::InUse(holder(rt, &self.file)),
+            RecordRefusal::InUse => RecordFault::InUse(self.holder(rt)),
             RecordRefusal::NoLocks => RecordFault::NoLocks,
             RecordRefusal::OtherName => RecordFault::File(ErrorKind::NotFound),
         }
     }
 
-    fn read(&mut self, rt: &HostRuntime) -> Result<(), RecordFault> {
-        self.pause = Some(pause_of(rt, &self.file).map_err(of_system)?);
-        match first_bytes(rt.alloc(), &mut self.file, usize::MAX) {
-            Ok(text) => self.text = text,
-            Err(Unread::Device(kind)) => return Err(RecordFault::File(kind)),
-            Err(Unread::Memory) => return Err(RecordFault::Memory),
+    fn holder(&self, rt: &HostRuntime) -> Option<u32> {
+        holder(rt, self.opened().ok()?)
+    }
+
+    fn opened(&self) -> Result<&File, FileFault> {
+        match &self.file {
+            Some(file) => Ok(file),
+            None => Err(NOT_OPEN),
         }
-        Ok(())
     }
 
     /// What stands in it, where a night resumes.
@@ -184,10 +165,15 @@ impl RecordFile {
 
     /// How many bytes stand in it; 0 where the system does not say.
     pub fn length(&self) -> u64 {
-        match self.file.metadata() {
-            Ok(found) if found.is_file() => found.len(),
+        match self.found() {
+            Ok(found) if found.is_regular => found.length,
             _ => 0,
         }
+    }
+
+    fn found(&self) -> Result<FoundFile, FileFault> {
+        let found = self.opened()?.metadata().map_err(of_system)?;
+        Ok(found_file(&found))
     }
 
     /// How long it had not been written, where a night resumes.
@@ -208,9 +194,11 @@ impl RecordFile {
     /// As [`RecordFault`] lists them.
     pub fn keep_lines(self, rt: &HostRuntime, length: usize) -> Result<Record, RecordFault> {
         if (length as u64) < self.length() {
-            self.file.set_len(length as u64).map_err(of_system)?;
+            self.opened()?.set_len(length as u64).map_err(of_system)?;
         }
-        let RecordFile { file, .. } = self;
+        let Some(file) = self.file else {
+            return Err(RecordFault::from(NOT_OPEN));
+        };
         let locked = file.try_clone().map_err(of_system)?;
         match BoundedOutput::new(rt, file, NAMES) {
             Ok(lines) => Ok(Record::of(lines, locked, length as u64)),
@@ -219,25 +207,103 @@ impl RecordFile {
     }
 }
 
-fn of_system(error: Error) -> RecordFault {
-    match error.kind() {
-        ErrorKind::OutOfMemory => RecordFault::Memory,
-        kind => RecordFault::File(kind),
+// A record's file and its name, for the steps towards it. It does not tell them.
+#[derive(Drop)]
+struct SystemFile<'a> {
+    rt: &'a HostRuntime,
+    name: &'a str,
+    record: &'a mut RecordFile,
+}
+
+impl<'a> SystemFile<'a> {
+    fn of(rt: &'a HostRuntime, name: &'a str, record: &'a mut RecordFile) -> Self {
+        SystemFile { rt, name, record }
     }
 }
 
-fn open_file(rt: &HostRuntime, name: &str, purpose: RecordUse) -> Result<File, Error> {
-    let is_fifo = match metadata(rt, name) {
-        Ok(found) => found.file_type().is_fifo(),
-        Err(_) => false,
-    };
-    let access = purpose.access_to(is_fifo);
-    OpenOptions::new()
-        .read(access.reads)
-        .write(access.writes)
-        .append(access.appends)
-        .create(access.creates)
-        .open(rt, name)
+impl RecordSystem for SystemFile<'_> {
+    ghost tells = { λ _. ⊥ };
+
+    ghost steps = { λ _. [] };
+
+    fn is_fifo(&mut self) -> bool {
+        match metadata(self.rt, self.name) {
+            Ok(found) => found.file_type().is_fifo(),
+            Err(_) => false,
+        }
+    }
+
+    fn open(&mut self, access: FileAccess) -> Result<(), FileFault> {
+        let file = OpenOptions::new()
+            .read(access.reads)
+            .write(access.writes)
+            .append(access.appends)
+            .create(access.creates)
+            .open(self.rt, self.name)
+            .map_err(of_system)?;
+        self.record.file = Some(file);
+        Ok(())
+    }
+
+    fn look(&mut self) -> Result<FoundFile, FileFault> {
+        self.record.found()
+    }
+
+    fn lock(&mut self) -> FileLock {
+        match &self.record.file {
+            Some(file) => lock(self.rt, file),
+            None => FileLock::Missing,
+        }
+    }
+
+    fn lock_at_once(&mut self) -> FileLock {
+        match &self.record.file {
+            Some(file) => lock_at_once(self.rt, file),
+            None => FileLock::Missing,
+        }
+    }
+
+    fn look_again(&mut self) -> Result<NamedFile, FileFault> {
+        let named = metadata(self.rt, self.name).map_err(of_system)?;
+        let found = self.record.opened()?.metadata().map_err(of_system)?;
+        let is_named = is_same(&named, &found);
+        Ok(NamedFile {
+            is_named,
+            found: found_file(&found),
+        })
+    }
+
+    fn keep_pause(&mut self) -> Result<(), FileFault> {
+        let pause = pause_of(self.rt, self.record.opened()?).map_err(of_system)?;
+        self.record.pause = Some(pause);
+        Ok(())
+    }
+
+    fn keep_text(&mut self) -> Result<(), FileFault> {
+        let Some(file) = &mut self.record.file else {
+            return Err(NOT_OPEN);
+        };
+        match first_bytes(self.rt.alloc(), file, usize::MAX) {
+            Ok(text) => self.record.text = text,
+            Err(Unread::Device(kind)) => return Err(FileFault::System(kind)),
+            Err(Unread::Memory) => return Err(FileFault::Memory),
+        }
+        Ok(())
+    }
+}
+
+fn found_file(found: &Metadata) -> FoundFile {
+    FoundFile {
+        is_regular: found.is_file(),
+        length: found.len(),
+    }
+}
+
+fn of_system(error: Error) -> FileFault {
+    match error.kind() {
+        ErrorKind::OutOfMemory => FileFault::Memory,
+        kind => FileFault::System(kind),
+    }
 }
 
 // Where the system's clock ran back, nothing of it counts.

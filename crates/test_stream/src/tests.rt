@@ -4,6 +4,7 @@ mod head;
 mod lock;
 mod machine;
 mod memory;
+mod opening;
 mod packet;
 mod queue;
 mod receiver;

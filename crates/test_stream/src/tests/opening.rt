@@ -1,0 +1,204 @@
+use night_files::memory::{FileAnswers, MemoryFile};
+use night_files::{
+    FileFault, FileLock, FoundFile, NamedFile, OpeningFault, RecordRefusal, RecordStep, RecordUse,
+    open_record, take_over_record,
+};
+use std::alloc::Global;
+use std::process::Abort;
+
+// What the steps towards a file answer, the answer in the end, and how many steps lead to it.
+type Row = (FileAnswers, Result<bool, OpeningFault>, usize);
+
+// The steps in their order: towards an open file, and to take one over.
+const OPENING: &[&str] = &["name", "open", "look", "lock", "again", "pause", "read"];
+
+const TAKING_OVER: &[&str] = &["at once", "again", "pause"];
+
+const EMPTY: FoundFile = FoundFile {
+    is_regular: true,
+    length: 0,
+};
+
+const WRITTEN: FoundFile = FoundFile {
+    is_regular: true,
+    length: 1,
+};
+
+const DEVICE: FoundFile = FoundFile {
+    is_regular: false,
+    length: 0,
+};
+
+const FAULT: FileFault = FileFault::Memory;
+
+const FAILED: Result<bool, OpeningFault> = Err(OpeningFault::File(FAULT));
+
+// An empty file, of which no step fails.
+const NEW: FileAnswers = FileAnswers {
+    is_fifo: false,
+    opened: Ok(()),
+    found: Ok(EMPTY),
+    lock: FileLock::Ours,
+    named: Ok(NamedFile {
+        is_named: true,
+        found: EMPTY,
+    }),
+    pause: Ok(()),
+    text: Ok(()),
+};
+
+// The same, each with another answer.
+const THEIRS: FileAnswers = FileAnswers {
+    lock: FileLock::Theirs,
+    ..NEW
+};
+
+const LOCKLESS: FileAnswers = FileAnswers {
+    lock: FileLock::Missing,
+    ..NEW
+};
+
+const RENAMED: FileAnswers = FileAnswers {
+    named: Ok(NamedFile {
+        is_named: false,
+        found: EMPTY,
+    }),
+    ..NEW
+};
+
+fn refused(refusal: RecordRefusal) -> Result<bool, OpeningFault> {
+    Err(OpeningFault::Refused(refusal))
+}
+
+fn word(step: &RecordStep) -> &'static str {
+    match step {
+        RecordStep::Name(_) => "name",
+        RecordStep::Open(..) => "open",
+        RecordStep::Look(_) => "look",
+        RecordStep::Lock(_) => "lock",
+        RecordStep::LockAtOnce(_) => "at once",
+        RecordStep::LookAgain(_) => "again",
+        RecordStep::Pause(_) => "pause",
+        RecordStep::Read(_) => "read",
+    }
+}
+
+// A file is opened for a purpose, or taken over where there is none.
+fn holds(alloc: Global, purpose: Option<RecordUse>, row: &Row) -> bool {
+    let (answers, answer, count) = *row;
+    let mut file = MemoryFile::new(alloc, answers);
+    let (given, order) = match purpose {
+        Some(purpose) => (open_record(&mut file, purpose), OPENING),
+        None => (take_over_record(&mut file), TAKING_OVER),
+    };
+    let steps = file.steps.as_slice();
+    !file.full
+        && given == answer
+        && steps.len() == count
+        && steps
+            .iter()
+            .zip(order)
+            .all(|(step, name)| word(step) == *name)
+}
+
+fn hold_each(rt: &impl Abort, alloc: Global, purpose: Option<RecordUse>, rows: &[Row]) {
+    for row in rows {
+        assert!(rt; holds(alloc, purpose, row));
+    }
+}
+
+#[test]
+fn a_night_begins_in_a_locked_file(rt: HostRuntime) {
+    let rows = &[
+        (NEW, Ok(true), 5),
+        (THEIRS, refused(RecordRefusal::InUse), 4),
+        (LOCKLESS, Ok(false), 5),
+        (RENAMED, refused(RecordRefusal::OtherName), 5),
+        // What is refused is not locked, and nor is a device.
+        (
+            FileAnswers {
+                found: Ok(WRITTEN),
+                ..NEW
+            },
+            refused(RecordRefusal::NotEmpty),
+            3,
+        ),
+        (
+            FileAnswers {
+                found: Ok(DEVICE),
+                ..NEW
+            },
+            Ok(true),
+            3,
+        ),
+        // Another night began in it before it was locked.
+        (
+            FileAnswers {
+                named: Ok(NamedFile {
+                    is_named: true,
+                    found: WRITTEN,
+                }),
+                ..NEW
+            },
+            refused(RecordRefusal::NotEmpty),
+            5,
+        ),
+    ];
+    hold_each(&rt, rt.alloc(), Some(RecordUse::Begin), rows);
+}
+
+#[test]
+fn a_night_goes_on_in_a_locked_file(rt: HostRuntime) {
+    let rows = &[
+        (NEW, Ok(true), 7),
+        (RENAMED, refused(RecordRefusal::OtherName), 5),
+        (
+            FileAnswers {
+                found: Ok(DEVICE),
+                ..NEW
+            },
+            refused(RecordRefusal::NoFile),
+            3,
+        ),
+        (
+            FileAnswers {
+                pause: Err(FAULT),
+                ..NEW
+            },
+            FAILED,
+            6,
+        ),
+        (
+            FileAnswers {
+                text: Err(FAULT),
+                ..NEW
+            },
+            FAILED,
+            7,
+        ),
+    ];
+    hold_each(&rt, rt.alloc(), Some(RecordUse::Resume), rows);
+}
+
+#[test]
+fn a_watched_file_is_locked_to_take_it_over(rt: HostRuntime) {
+    let opened = &[
+        (THEIRS, Ok(false), 3),
+        (
+            FileAnswers {
+                opened: Err(FAULT),
+                ..NEW
+            },
+            FAILED,
+            2,
+        ),
+    ];
+    hold_each(&rt, rt.alloc(), Some(RecordUse::Watch), opened);
+    let taken = &[
+        (NEW, Ok(true), 3),
+        (THEIRS, Ok(false), 1),
+        (LOCKLESS, refused(RecordRefusal::NoLocks), 1),
+        (RENAMED, refused(RecordRefusal::OtherName), 2),
+    ];
+    hold_each(&rt, rt.alloc(), None, taken);
+}
