@@ -32,6 +32,14 @@ struct Main<'a> {
     opened: Instant,
 }
 
+// A main whose night is followed.
+#[derive(Drop)]
+struct Leader<'a> {
+    file: &'a str,
+    head: RecordHead,
+    record: MainRecord<'a>,
+}
+
 /// Follows the night of a main, and goes on by itself when it is silent.
 pub fn play_following<'r>(
     rt: &'r HostRuntime,
@@ -90,8 +98,12 @@ fn follow_main<'r, F: Fader>(
         ..
     } = devices.begin(rt, bill, place_of(night))?;
     booth.watch(LinkTeller::new(rt, &network));
-    let mut leader = MainRecord::new(rt, booth, words, lines, opened);
-    play_behind(rt, bill, &network, (words.file, &head), &mut leader, night)
+    let mut leader = Leader {
+        file: words.file,
+        head,
+        record: MainRecord::new(rt, booth, words, lines, opened),
+    };
+    play_behind(rt, bill, &network, &mut leader, night)
 }
 
 // Takes up what the main has done, follows it on, and goes on by itself when it is silent.
@@ -99,27 +111,28 @@ fn play_behind<F: Fader>(
     rt: &HostRuntime,
     bill: &Playbill<'_, '_>,
     network: &RefCell<Network>,
-    (file, head): (&str, &RecordHead),
-    (leader, night): (&mut MainRecord<'_>, &mut Night<F>),
+    leader: &mut Leader<'_>,
+    night: &mut Night<F>,
 ) -> NightEnd
     requires { CanFollow F.stands_for night.old }
 {
+    let Leader { file, head, record } = leader;
     // What stands in the record already is sent to nobody.
-    follow(night, leader, &mut Silent)?;
+    follow(night, record, &mut Silent)?;
     if night.is_over() {
         return Err(JobFault::Record(Refusal::main_is_over()));
     }
     let followed = MainNight {
-        file,
+        file: *file,
         cid: head.cid,
         priority: head.priority,
         place: place_of(night),
     };
-    tell(rt, bill, network, followed, leader)?;
-    leader.follow(now(rt)?);
+    tell(rt, bill, network, followed, record)?;
+    record.follow(now(rt)?);
     let mut link = link_of(rt, network, bill.night);
-    let answer = follow_and_lead(rt, night, leader, &mut link);
-    leader.booth().finish();
+    let answer = follow_and_lead(rt, night, record, &mut link);
+    record.booth().finish();
     Ok(night_end(answer?, bill.show, network, None))
 }
 

@@ -1,3 +1,5 @@
+ghost use Rattle.std.specs.Prelude.{◌<◌, ◌^◌, length};
+
 use crate::network_lines::tell_network;
 use crate::screen::Screen;
 use cmd_explain::{seems, weigh};
@@ -45,7 +47,9 @@ impl StartLines<'_, '_, '_> {
         rt: &HostRuntime,
         loaded: &Loaded,
         screen: &mut Screen,
-    ) -> Result<(), RunFault> {
+    ) -> Result<(), RunFault>
+        requires { length self.now.show.now < 2 ^ 32 }
+    {
         if !has_numbers(&loaded.show, self.night.base) {
             return Err(RunFault::Base);
         }
