@@ -142,14 +142,20 @@ impl<'a> LiveDevices<'a> {
     ) -> Result<Pause, Failure> {
         self.tell_missing_locks();
         if bill.words.main.is_none() {
+            let recorded = self.recording(bill.words, place);
+            let LiveDevices {
+                network,
+                screen,
+                ..
+            } = self;
             let lines = StartLines {
                 night: bill.night,
                 show: bill.show,
-                network: &self.network,
-                recorded: self.recording(bill.words, place),
+                network: &*network,
+                recorded,
                 followed: None,
             };
-            run_end(lines.tell(rt, &mut self.screen), bill.show, None)?;
+            run_end(lines.tell(rt, screen), bill.show, None)?;
         }
         pause_before(rt, self.record.as_ref(), &self.opening)
     }

@@ -1,4 +1,3 @@
-use Rattle.cueplayer.proofs.Following.{playable}
 use Rattle.cueplayer.proofs.opening.begin.Goals as goal
 
 pub returns-in-Ok : goal.returns-in-Ok
