@@ -19,9 +19,9 @@ use Rattle.clap.specs.Walk.{done, waits, refused}
 use Rattle.clap.specs.Walk.{idle, option, positional, next, trailing, subcommand, value}
 use Rattle.clap.specs.Walk.{reacted, reading_by, rows_after, settled, settled_rows, short_met}
 use Rattle.clap.specs.Walk.{subcommand_met, takes_several, takes_values, to_positional, used}
-use Rattle.clap.specs.Walk.{used_as, used_by_id, values_or_missing, walk, walk_from, walked, with_default}
-use Rattle.clap.specs.Walk.{with_values, without, word_met, is_pending, positional_held}
-use Rattle.clap.specs.Walk.{walked_from}
+use Rattle.clap.specs.Walk.{used_as, used_by_id, values_or_missing, walk, walk_from, walked}
+use Rattle.clap.specs.Walk.{with_default, with_values, without, word_met, is_pending}
+use Rattle.clap.specs.Walk.{positional_held, walked_from}
 use Rattle.clap.specs.Walk.{bundle, long_or_other, short_or_plain, subcommand_or_other}
 use Rattle.clap.specs.Simple.{App, Shape, argument_words, built, entered, label_of, names_of}
 use Rattle.clap.specs.Simple.{rows_at, subcommand_of}

@@ -517,6 +517,3 @@ fn carry_out<F: Fader>(
     }
     Ok(())
 }
-
-#[cfg(test)]
-mod capacities;

@@ -35,7 +35,8 @@ step false false true gaps found looks rest = rest true gaps
 step true false true gaps found looks rest = rest true gaps
 step true false false gaps found looks rest =
     elim (nat_eq found gaps)
-    as (λ b. AreInTurn true (cond b Whole Missing ∷ notices_of (watch_of false false found) looks)) [
+    as (λ b. AreInTurn true
+    (cond b Whole Missing ∷ notices_of (watch_of false false found) looks)) [
       | true ↦ rest false found
       | false ↦ rest false found
     ]

@@ -41,8 +41,6 @@ mod night_opening;
 mod opening;
 mod read;
 mod silence;
-#[cfg(test)]
-mod tests;
 mod unfit;
 
 pub use asked::Asked;

@@ -8,6 +8,7 @@ mod opening;
 mod packet;
 mod queue;
 mod receiver;
+mod record_head;
 mod replies;
 mod routes;
 mod socket;

@@ -1,7 +1,8 @@
 use Rattle.live_input.proofs.Terms.{arith, ◌∙◌, sym, ◌∷◌, ◌++◌, [], bytes_decides, answers, asked}
 use Rattle.live_input.proofs.Terms.{bytes_come, lines_answered, typed_again, typed_kept}
-use Rattle.live_input.proofs.Recalling.{left_none, no_call, none_given, one_more}
-use Rattle.live_input.proofs.Recalling.{equal, if_none, line_left, recalled_is, same_line, stays_typed}
+use Rattle.live_input.proofs.Recalling.{equal, if_none, left_none, line_left, no_call}
+use Rattle.live_input.proofs.Recalling.{none_given, one_more, recalled_is, same_line}
+use Rattle.live_input.proofs.Recalling.{stays_typed}
 use Rattle.live_input.proofs.live.LiveInput.recall.Goals as goal
 
 pub returns-in_default : goal.returns-in_default

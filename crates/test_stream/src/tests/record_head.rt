@@ -1,4 +1,4 @@
-use crate::{Difference, HeadName, RecordHead};
+use night_record::{Difference, HeadName, RecordHead};
 use std::test::Fail;
 
 // The text of a head, without its last LF. The checksum is that of `abc` (FIPS 180-4).
