@@ -1,13 +1,18 @@
+ghost use Rattle.std.specs.Prelude.{[]};
+
 use crate::cards::open_network;
 use crate::device_failure::{of_device_fault, of_lock_fault, of_record};
 use crate::jobs::{NO_LOCK, run_end};
 use crate::live_booth::LiveBooth;
 use crate::live_job::{LiveWords, Playbill};
 use crate::opening::opening_of;
-use crate::screen::Screen;
+use crate::screen::{Replies, Screen, open_replies};
 use crate::standard::Standard;
 use crate::start_lines::StartLines;
-use live_machine::NightInput;
+use live_machine::{
+    DeviceSystem, DevicesOf, NightInput, NightRole, OpenDevices, StartSystem, open_behind_record,
+    open_devices, start_night,
+};
 use night_lines::{Place, Recording};
 use night_record::NightOpening;
 use remarks::{Failure, JobFault};
@@ -24,7 +29,9 @@ const NO_RECORD_LOCK: &[u8] =
 pub struct LiveDevices<'a> {
     input: TypedInput<'a>,
     screen: Screen,
-    record: Option<RecordFile>,
+    // Until the record begins, or goes on.
+    file: Option<RecordFile>,
+    record: Record,
     /// How the record begins, or goes on.
     pub opening: NightOpening,
     lock: Option<CidLock>,
@@ -43,7 +50,7 @@ pub struct Beginning<'a> {
 }
 
 impl<'a> LiveDevices<'a> {
-    /// The record comes before the CID: of a night that is on, its file is told.
+    /// Opens them in the order of [`open_devices`].
     ///
     /// # Errors
     ///
@@ -53,19 +60,12 @@ impl<'a> LiveDevices<'a> {
         bill: &Playbill<'_, '_>,
         standard: Standard<'a>,
     ) -> Result<Self, JobFault> {
-        let record = match bill.words.record_file {
-            None => None,
-            Some(name) => {
-                let record = RecordFile::open(rt, name, bill.words.resumes);
-                Some(record.map_err(|fault| of_record(name, fault))?)
-            }
+        let (file, behind) = open_devices(&mut SystemDevices { rt, bill })?;
+        let opening = match &file {
+            Some(file) => opening_of(rt, bill, file.text())?,
+            None => NightOpening::none(),
         };
-        let none = NightOpening::none();
-        let mut devices = LiveDevices::with_record(rt, bill, standard, record, none)?;
-        if let Some(record) = &devices.record {
-            devices.opening = opening_of(rt, bill, record.text())?;
-        }
-        Ok(devices)
+        Ok(LiveDevices::of(rt, standard, file, opening, behind))
     }
 
     /// With the file of a record that is open, and how that goes on.
@@ -73,31 +73,45 @@ impl<'a> LiveDevices<'a> {
     /// # Errors
     ///
     /// Where another device cannot be had.
-    pub fn with_record(
+    pub fn behind_record(
         rt: &HostRuntime,
         bill: &Playbill<'_, '_>,
         standard: Standard<'a>,
-        record: Option<RecordFile>,
+        file: RecordFile,
         opening: NightOpening,
     ) -> Result<Self, JobFault> {
+        let behind = open_behind_record(&mut SystemDevices { rt, bill })?;
+        Ok(LiveDevices::of(rt, standard, Some(file), opening, behind))
+    }
+
+    fn of(
+        rt: &HostRuntime,
+        standard: Standard<'a>,
+        file: Option<RecordFile>,
+        opening: NightOpening,
+        behind: OpenDevices<Replies, Option<CidLock>, Network>,
+    ) -> Self {
         let Standard { input, messages } = standard;
-        let screen = Screen::new(rt, messages).map_err(of_device_fault)?;
-        let lock = CidLock::take(rt, bill.night.cid).map_err(of_lock_fault)?;
-        let network = open_network(rt, bill.night, true)?;
-        Ok(LiveDevices {
-            input,
+        let OpenDevices {
             screen,
-            record,
-            opening,
-            lock,
+            cid_lock,
             network,
-        })
+        } = behind;
+        LiveDevices {
+            input,
+            screen: Screen::new(rt, screen, messages),
+            file,
+            record: Record::none(),
+            opening,
+            lock: cid_lock,
+            network,
+        }
     }
 
     /// What stands in the record.
     pub fn text(&self) -> &[u8] {
-        match &self.record {
-            Some(record) => record.text(),
+        match &self.file {
+            Some(file) => file.text(),
             None => &[],
         }
     }
@@ -114,16 +128,25 @@ impl<'a> LiveDevices<'a> {
         bill: &Playbill<'_, '_>,
         place: Place,
     ) -> Result<Beginning<'a>, JobFault> {
-        let pause = self.tell_start(rt, bill, place)?;
+        let role = match bill.words.main {
+            Some(_) => NightRole::Follows,
+            None => NightRole::Leads,
+        };
+        let mut start = SystemStart {
+            rt,
+            bill,
+            place,
+            devices: &mut self,
+        };
+        let pause = start_night(&mut start, role)?;
         let LiveDevices {
             input,
-            mut screen,
+            screen,
             record,
-            opening,
             lock,
             network,
+            ..
         } = self;
-        let record = begin_record(rt, bill.words, record, &opening, &mut screen)?;
         let input = NightInput::new(input, bill.words.ends_with_input);
         Ok(Beginning {
             network: RefCell::new(network),
@@ -133,31 +156,27 @@ impl<'a> LiveDevices<'a> {
         })
     }
 
-    // Tells how the night begins, and answers how long its record had not been written.
-    fn tell_start(
+    // Tells how the night begins.
+    fn tell_lines(
         &mut self,
         rt: &HostRuntime,
         bill: &Playbill<'_, '_>,
         place: Place,
-    ) -> Result<Pause, Failure> {
-        self.tell_missing_locks();
-        if bill.words.main.is_none() {
-            let recorded = self.recording(bill.words, place);
-            let LiveDevices {
-                network,
-                screen,
-                ..
-            } = self;
-            let lines = StartLines {
-                night: bill.night,
-                show: bill.show,
-                network: &*network,
-                recorded,
-                followed: None,
-            };
-            run_end(lines.tell(rt, screen), bill.show, None)?;
-        }
-        pause_before(rt, self.record.as_ref(), &self.opening)
+    ) -> Result<(), Failure> {
+        let recorded = self.recording(bill.words, place);
+        let LiveDevices {
+            network,
+            screen,
+            ..
+        } = self;
+        let lines = StartLines {
+            night: bill.night,
+            show: bill.show,
+            network: &*network,
+            recorded,
+            followed: None,
+        };
+        run_end(lines.tell(rt, screen), bill.show, None)
     }
 
     // Tells of locks that cannot be made.
@@ -165,8 +184,8 @@ impl<'a> LiveDevices<'a> {
         if self.lock.is_none() {
             self.screen.tell(NO_LOCK);
         }
-        if let Some(record) = &self.record
-            && !record.has_lock()
+        if let Some(file) = &self.file
+            && !file.has_lock()
         {
             self.screen.tell(NO_RECORD_LOCK);
         }
@@ -174,7 +193,7 @@ impl<'a> LiveDevices<'a> {
 
     // Where the night is recorded, and from where it goes on there.
     fn recording<'w>(&self, words: LiveWords<'w>, place: Place) -> Option<Recording<'w>> {
-        let record = self.record.as_ref()?;
+        let record = self.file.as_ref()?;
         Some(Recording {
             file: words.record_file?,
             resumes: words.resumes,
@@ -182,41 +201,110 @@ impl<'a> LiveDevices<'a> {
             is_cut: self.opening.lines.has_cut_line(record.length()),
         })
     }
-}
+    // How long the record of a night that goes on had not been written; a night that begins does so
+    // now.
+    fn pause(&self, rt: &HostRuntime) -> Result<Pause, Failure> {
+        match self.file.as_ref().and_then(RecordFile::pause) {
+            Some(pause) if self.opening.lines.goes_on() => Ok(pause),
+            _ => Ok(Pause {
+                until: now(rt)?,
+                milliseconds: 0,
+            }),
+        }
+    }
 
-// How long the record of a night that goes on had not been written; a night that begins does so
-// now.
-fn pause_before(
-    rt: &HostRuntime,
-    record: Option<&RecordFile>,
-    opening: &NightOpening,
-) -> Result<Pause, Failure> {
-    match record.and_then(RecordFile::pause) {
-        Some(pause) if opening.lines.goes_on() => Ok(pause),
-        _ => Ok(Pause {
-            until: now(rt)?,
-            milliseconds: 0,
-        }),
+    // Cuts the file of a record behind its last line, or begins it.
+    fn begin_record(&mut self, rt: &HostRuntime, words: LiveWords<'_>) -> Result<(), JobFault> {
+        let (Some(file), Some(name)) = (self.file.take(), words.record_file) else {
+            return Ok(());
+        };
+        let kept = file.keep_lines(rt, self.opening.lines.to);
+        self.record = kept.map_err(|fault| of_record(name, fault))?;
+        if let Some(head) = &self.opening.head {
+            self.record.keep(head.as_slice(), self.screen.messages());
+        }
+        Ok(())
     }
 }
 
-// Cuts the file of a record behind its last line, or begins it.
-fn begin_record(
-    rt: &HostRuntime,
-    words: LiveWords<'_>,
-    record: Option<RecordFile>,
-    opening: &NightOpening,
-    screen: &mut Screen,
-) -> Result<Record, JobFault> {
-    let (Some(file), Some(name)) = (record, words.record_file) else {
-        return Ok(Record::none());
-    };
-    let kept = file.keep_lines(rt, opening.lines.to);
-    let mut record = kept.map_err(|fault| of_record(name, fault))?;
-    if let Some(head) = &opening.head {
-        record.keep(head.as_slice(), screen.messages());
+// The system's devices, as a night asks for them.
+struct SystemDevices<'d, 'w, 's> {
+    rt: &'d HostRuntime,
+    bill: &'d Playbill<'w, 's>,
+}
+
+// It does not tell its steps.
+impl DeviceSystem for SystemDevices<'_, '_, '_> {
+    type Record = Option<RecordFile>;
+
+    type Screen = Replies;
+
+    type CidLock = Option<CidLock>;
+
+    type Network = Network;
+
+    type Fault = JobFault;
+
+    ghost tells = { λ _. ⊥ };
+
+    ghost steps = { λ _. [] };
+
+    fn open_record(&mut self) -> Result<Option<RecordFile>, JobFault> {
+        let Some(name) = self.bill.words.record_file else {
+            return Ok(None);
+        };
+        match RecordFile::open(self.rt, name, self.bill.words.resumes) {
+            Ok(file) => Ok(Some(file)),
+            Err(fault) => Err(of_record(name, fault)),
+        }
     }
-    Ok(record)
+
+    fn open_screen(&mut self) -> Result<Replies, JobFault> {
+        Ok(open_replies(self.rt).map_err(of_device_fault)?)
+    }
+
+    fn take_cid_lock(&mut self) -> Result<Option<CidLock>, JobFault> {
+        Ok(CidLock::take(self.rt, self.bill.night.cid).map_err(of_lock_fault)?)
+    }
+
+    fn open_network(&mut self) -> Result<Network, JobFault> {
+        open_network(self.rt, self.bill.night, true)
+    }
+}
+
+// The start of a night at this place, from its devices.
+struct SystemStart<'d, 'a, 'w, 's> {
+    rt: &'d HostRuntime,
+    bill: &'d Playbill<'w, 's>,
+    place: Place,
+    devices: &'d mut LiveDevices<'a>,
+}
+
+// It does not tell its steps.
+impl StartSystem for SystemStart<'_, '_, '_, '_> {
+    type Pause = Pause;
+
+    type Fault = JobFault;
+
+    ghost tells = { λ _. ⊥ };
+
+    ghost steps = { λ _. [] };
+
+    fn tell_missing_locks(&mut self) {
+        self.devices.tell_missing_locks();
+    }
+
+    fn tell_lines(&mut self) -> Result<(), JobFault> {
+        Ok(self.devices.tell_lines(self.rt, self.bill, self.place)?)
+    }
+
+    fn look_at_pause(&mut self) -> Result<Pause, JobFault> {
+        Ok(self.devices.pause(self.rt)?)
+    }
+
+    fn begin_record(&mut self) -> Result<(), JobFault> {
+        self.devices.begin_record(self.rt, self.bill.words)
+    }
 }
 
 /// The moment of the system's clock.

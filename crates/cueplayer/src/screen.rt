@@ -13,11 +13,23 @@ const NAMES: Names = Names {
     },
 };
 
+/// Standard output, as replies go there.
+pub type Replies = BoundedOutput<Stdout>;
+
+/// Opens standard output.
+///
+/// # Errors
+///
+/// As those of [`BoundedOutput::new`].
+pub fn open_replies(rt: &HostRuntime) -> Result<Replies, DeviceFault> {
+    BoundedOutput::new(rt, rt.stdout(), NAMES)
+}
+
 /// What the operator of a night sees: replies on standard output, and messages on standard error.
 /// They hold nobody up, and a reader of replies that has gone is told of once.
 #[derive(Drop)]
 pub struct Screen {
-    replies: BoundedOutput<Stdout>,
+    replies: Replies,
     messages: Messages,
     watch: OutputWatch,
     // Its files before the night.
@@ -25,18 +37,15 @@ pub struct Screen {
 }
 
 impl Screen {
-    /// # Errors
-    ///
-    /// As those of [`BoundedOutput::new`].
-    pub fn new(rt: &HostRuntime, messages: Messages) -> Result<Self, DeviceFault> {
-        let replies = BoundedOutput::new(rt, rt.stdout(), NAMES)?;
+    /// The screen of a night that begins.
+    pub fn new(rt: &HostRuntime, replies: Replies, messages: Messages) -> Self {
         let before = written_files(rt, &replies, &messages);
-        Ok(Screen {
+        Screen {
             replies,
             messages,
             watch: OutputWatch::default(),
             before,
-        })
+        }
     }
 
     /// Shows a reply on standard output, as soon as what waits is handed on. A tick can have

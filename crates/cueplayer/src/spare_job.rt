@@ -63,7 +63,7 @@ fn stand_by<'r, F: Fader>(
     let name = record.name();
     let (file, taken) = record.into_file().map_err(|fault| of_record(name, fault))?;
     let opening = NightOpening::behind(taken as usize);
-    let devices = LiveDevices::with_record(rt, bill, standard, Some(file), opening)?;
+    let devices = LiveDevices::behind_record(rt, bill, standard, file, opening)?;
     lead(rt, bill, devices, night)
 }
 

@@ -3,3 +3,5 @@ pub mod Input
 pub mod Failure
 pub mod Kept
 pub mod InputEnd
+pub mod NightDevices
+pub mod NightStart

@@ -19,8 +19,14 @@ mod failure;
 mod input;
 mod input_end;
 pub mod memory;
+mod night_devices;
+mod night_start;
 
 pub use clock::{MachineClock, NightClock, clock_law};
 pub use failure::reason;
 pub use input::{Came, MachineInput, NightInput, TURN};
 pub use input_end::InputEnd;
+pub use night_devices::{
+    DeviceStep, DeviceSystem, DevicesOf, NightDevice, OpenDevices, open_behind_record, open_devices,
+};
+pub use night_start::{NightRole, StartStep, StartSystem, start_night};

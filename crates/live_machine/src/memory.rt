@@ -1,7 +1,12 @@
-//! A clock and an input over memory: they tell what they did, and some of their calls fail.
+//! A clock, an input and a night's devices over memory: they tell what they did, and some of their
+//! calls fail.
 
 mod clock;
 mod input;
+mod night_devices;
+mod night_start;
 
 pub use clock::MemoryClock;
 pub use input::{MemoryInput, MemoryWait};
+pub use night_devices::MemoryDevices;
+pub use night_start::{MemoryStart, StartAnswers};

@@ -4,6 +4,7 @@ mod head;
 mod lock;
 mod machine;
 mod memory;
+mod night_devices;
 mod opening;
 mod packet;
 mod queue;

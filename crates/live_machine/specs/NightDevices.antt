@@ -1,0 +1,47 @@
+-- In which order the devices of a live night are opened, and its record begun.
+use Rattle.std.specs.Prelude.{ℕ, zero, suc, Bool, true, false, if◌then◌else◌, List, [], ◌∷◌}
+use Rattle.std.specs.Prelude.{Option, Some, None, Result, Ok, Err, ⊤}
+use Rattle.live_machine.specs.declared.night_devices.DeviceStep.{DeviceStep}
+use Rattle.live_machine.specs.declared.night_devices.NightDevice.{NightDevice}
+use Rattle.live_machine.specs.declared.night_devices.NightDevice.TheVariants.{Record, Screen}
+use Rattle.live_machine.specs.declared.night_devices.NightDevice.TheVariants.{CidLock, Network}
+
+-- a night that takes over its own record has that open
+abbrev pub behind_record : List NightDevice
+behind_record = Screen ∷ CidLock ∷ Network ∷ []
+
+-- of a night that is on, its record's file is told, so the record comes before the lock of the CID;
+-- no socket is opened before both are had
+abbrev pub in_order : List NightDevice
+in_order = Record ∷ behind_record
+
+-- it was opened, or it was not had
+abbrev pub opened : NightDevice → DeviceStep
+opened device = record { device = device; is_open = true }
+
+abbrev pub missed : NightDevice → DeviceStep
+missed device = record { device = device; is_open = false }
+
+-- each was opened
+abbrev pub all_opened : List NightDevice → List DeviceStep
+all_opened [] = []
+all_opened (device ∷ devices) = opened device ∷ all_opened devices
+
+-- so many were opened, and the next one was not had; those behind it are not asked for
+abbrev pub opened_but : ℕ → List NightDevice → List DeviceStep
+opened_but count [] = []
+opened_but zero (device ∷ devices) = missed device ∷ []
+opened_but (suc count) (device ∷ devices) = opened device ∷ opened_but count devices
+
+-- a device over memory is had, unless it is the missing one
+abbrev pub is_had : Option NightDevice → NightDevice → Bool
+is_had None device = true
+is_had (Some Record) Record = false
+is_had (Some Screen) Screen = false
+is_had (Some CidLock) CidLock = false
+is_had (Some Network) Network = false
+is_had (Some missing) device = true
+
+-- what is answered then
+abbrev pub had_or_missing : Option NightDevice → NightDevice → Result ⊤ NightDevice
+had_or_missing missing device = if is_had missing device then Ok tt else Err device
