@@ -228,6 +228,7 @@ impl<'a> LiveDevices<'a> {
 }
 
 // The system's devices, as a night asks for them.
+#[derive(Clone, Copy)]
 struct SystemDevices<'d, 'w, 's> {
     rt: &'d HostRuntime,
     bill: &'d Playbill<'w, 's>,
@@ -273,6 +274,7 @@ impl DeviceSystem for SystemDevices<'_, '_, '_> {
 }
 
 // The start of a night at this place, from its devices.
+#[derive(Drop)]
 struct SystemStart<'d, 'a, 'w, 's> {
     rt: &'d HostRuntime,
     bill: &'d Playbill<'w, 's>,
