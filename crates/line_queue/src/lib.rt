@@ -19,16 +19,18 @@ mod owed;
 mod pipe;
 mod queue;
 mod watch;
+mod way;
 mod writers;
 
 pub use laws::notices_law;
-pub use memory::{MemoryPipe, MemoryWriters};
+pub use memory::{MemoryPipe, MemoryWay, MemoryWriters, WayAnswers};
 pub use notice::{Notice, NoticeText};
 pub use owed::{
     GivenBytes, OwedLine, WrittenFile, WrittenFiles, outputs_owed_line, owed_by_outputs,
-    owed_bytes, record_owed_line,
+    owed_bytes, piped_bytes, record_owed_line,
 };
 pub use pipe::Pipe;
 pub use queue::LineQueue;
 pub use watch::{OutputLook, OutputNotice, OutputWatch};
+pub use way::{PipeVariable, WayStep, WaySystem, open_way};
 pub use writers::{Writers, wait_for_writers};

@@ -13,4 +13,5 @@ mod replies;
 mod routes;
 mod socket;
 mod source;
+mod way;
 mod writers;
