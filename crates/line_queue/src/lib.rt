@@ -2,8 +2,9 @@
 //!
 //! A [`LineQueue`] takes lines and hands them on as far as its [`Pipe`] takes bytes at once. A line
 //! for which there is no room is dropped, and a [`Notice`] at its place says how many lines were.
-//! Where another process writes the output's file, [`owed_bytes`] are those that the file does not
-//! have yet, and [`wait_for_writers`] waits for them.
+//! Where another process writes the output's file, [`open_way`] opens the pipe to it,
+//! [`owed_bytes`] are those that the file does not have yet, and [`wait_for_writers`] waits for
+//! them.
 //!
 //! ```
 //! let notice = Notice { mark: "! ", lines: "lines" };
