@@ -6,3 +6,4 @@ pub mod Handing
 pub mod Kept
 pub mod Watches
 pub mod Owed
+pub mod Ways

@@ -2,8 +2,9 @@
 //!
 //! A [`LineQueue`] takes lines and hands them on as far as its [`Pipe`] takes bytes at once. A line
 //! for which there is no room is dropped, and a [`Notice`] at its place says how many lines were.
-//! Where another process writes the output's file, [`owed_bytes`] are those that the file does not
-//! have yet, and [`wait_for_writers`] waits for them.
+//! Where another process writes the output's file, [`open_way`] opens the pipe to it,
+//! [`owed_bytes`] are those that the file does not have yet, and [`wait_for_writers`] waits for
+//! them.
 //!
 //! ```
 //! let notice = Notice { mark: "! ", lines: "lines" };
@@ -19,16 +20,18 @@ mod owed;
 mod pipe;
 mod queue;
 mod watch;
+mod way;
 mod writers;
 
 pub use laws::notices_law;
-pub use memory::{MemoryPipe, MemoryWriters};
+pub use memory::{MemoryPipe, MemoryWay, MemoryWriters, WayAnswers};
 pub use notice::{Notice, NoticeText};
 pub use owed::{
     GivenBytes, OwedLine, WrittenFile, WrittenFiles, outputs_owed_line, owed_by_outputs,
-    owed_bytes, record_owed_line,
+    owed_bytes, piped_bytes, record_owed_line,
 };
 pub use pipe::Pipe;
 pub use queue::LineQueue;
 pub use watch::{OutputLook, OutputNotice, OutputWatch};
+pub use way::{PipeVariable, WayStep, WaySystem, open_way};
 pub use writers::{Writers, wait_for_writers};

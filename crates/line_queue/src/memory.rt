@@ -1,3 +1,4 @@
+mod way;
 mod writers;
 
 ghost use Rattle.std.specs.Prelude.{◌≡◌, ◌≤◌, ◌+◌, ◌-◌, ◌++◌, [], false, is_err, length, min};
@@ -11,6 +12,7 @@ use crate::Pipe;
 use devices::memory::Faults;
 use std::alloc::Global;
 use std::io::ErrorKind;
+pub use way::{MemoryWay, WayAnswers};
 pub use writers::MemoryWriters;
 
 /// A pipe over memory. It stops telling where memory for the bytes is refused, and where its calls

@@ -112,11 +112,11 @@ impl<W> BoundedOutput<W> {
     /// How many bytes the process that writes its file was given. It is 0 where there is none, or
     /// where it has failed.
     pub fn piped_bytes(&self) -> u64 {
-        if self.queue.pipe.way.is_pipe() && self.queue.failure().is_none() {
-            self.queue.bytes_taken()
-        } else {
-            0
-        }
+        line_queue::piped_bytes(
+            self.queue.pipe.way.is_pipe(),
+            self.queue.failure(),
+            self.queue.bytes_taken(),
+        )
     }
 
     /// How it is, for what an operator is told of it.

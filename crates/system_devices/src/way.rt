@@ -1,5 +1,7 @@
+ghost use Rattle.std.specs.Prelude.{[]};
+
 use arrayvec::ArrayString;
-use line_queue::WrittenFile;
+use line_queue::{PipeVariable, WaySystem, WrittenFile, open_way};
 use std::env::{self, VarError};
 use std::fmt::Write as _;
 use std::fs::{File, Metadata, OpenOptions, metadata};
@@ -23,11 +25,7 @@ impl<W: AsRawFd + Drop> Way<W> {
     ///
     /// The system's, where the pipe cannot be opened; `OutOfMemory` if an allocation failed.
     pub fn open(rt: &HostRuntime, output: W, variable: &str) -> IoResult<Self> {
-        let pipe = match env::var(rt, variable) {
-            Ok(name) if metadata_of(rt, &output)?.is_file() => Some(open_pipe(rt, name.as_str())?),
-            Err(VarError::OutOfMemory) => return Err(Error::from(ErrorKind::OutOfMemory)),
-            _ => None,
-        };
+        let pipe = pipe_to_writer(rt, &output, variable)?;
         Ok(Way { output, pipe })
     }
 }
@@ -79,16 +77,91 @@ impl<W: Write> Write for Way<W> {
     }
 }
 
+fn pipe_to_writer<W: AsRawFd>(
+    rt: &HostRuntime,
+    output: &W,
+    variable: &str,
+) -> Result<Option<File>, ErrorKind> {
+    let mut system = SystemWay {
+        rt,
+        output,
+        variable,
+        name: None,
+        both_ways: None,
+        pipe: None,
+    };
+    let is_pipe = open_way(&mut system)?;
+    Ok(if is_pipe { system.pipe } else { None })
+}
+
+// An output whose way is opened, for the steps to that. It does not tell them.
+#[derive(Drop)]
+struct SystemWay<'a, W> {
+    rt: &'a HostRuntime,
+    output: &'a W,
+    variable: &'a str,
+    name: Option<String>,
+    both_ways: Option<File>,
+    pipe: Option<File>,
+}
+
+impl<W> SystemWay<'_, W> {
+    fn pipe_name(&self) -> Result<&str, ErrorKind> {
+        match &self.name {
+            Some(name) => Ok(name.as_str()),
+            None => Err(ErrorKind::NotFound),
+        }
+    }
+}
+
+impl<W: AsRawFd> WaySystem for SystemWay<'_, W> {
+    ghost tells = { λ _. ⊥ };
+
+    ghost steps = { λ _. [] };
+
+    fn read_variable(&mut self) -> PipeVariable {
+        match env::var(self.rt, self.variable) {
+            Ok(name) => {
+                self.name = Some(name);
+                PipeVariable::NamesPipe
+            }
+            Err(VarError::OutOfMemory) => PipeVariable::OutOfMemory,
+            Err(_) => PipeVariable::NamesNothing,
+        }
+    }
+
+    fn is_regular_file(&mut self) -> Result<bool, ErrorKind> {
+        let found = metadata_of(self.rt, self.output).map_err(kind_of)?;
+        Ok(found.is_file())
+    }
+
+    fn open_both_ways(&mut self) -> Result<(), ErrorKind> {
+        let pipe = OpenOptions::new()
+            .read(true)
+            .write(true)
+            .open(self.rt, self.pipe_name()?)
+            .map_err(kind_of)?;
+        self.both_ways = Some(pipe);
+        Ok(())
+    }
+
+    fn open_to_write(&mut self) -> Result<(), ErrorKind> {
+        let pipe = OpenOptions::new()
+            .write(true)
+            .open(self.rt, self.pipe_name()?)
+            .map_err(kind_of)?;
+        self.pipe = Some(pipe);
+        Ok(())
+    }
+}
+
+fn kind_of(error: Error) -> ErrorKind {
+    error.kind()
+}
+
 // What the system knows of an open file, by its descriptor.
 fn metadata_of<F: AsRawFd>(rt: &HostRuntime, file: &F) -> IoResult<Metadata> {
     let mut path = ArrayString::<32>::new();
     let _ = write!(path, "/dev/fd/{}", file.as_raw_fd());
     metadata(rt, path.as_str())
-}
-
-// The pipe is opened for writing alone, so that a writer that has gone is seen; that does not wait
-// for one, since until then it is open both ways.
-fn open_pipe(rt: &HostRuntime, name: &str) -> IoResult<File> {
-    let _both_ways = OpenOptions::new().read(true).write(true).open(rt, name)?;
-    OpenOptions::new().write(true).open(rt, name)
 }

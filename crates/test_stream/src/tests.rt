@@ -14,4 +14,5 @@ mod replies;
 mod routes;
 mod socket;
 mod source;
+mod way;
 mod writers;
