@@ -1,1 +1,2 @@
 pub mod ShortText
+pub mod ReadLines

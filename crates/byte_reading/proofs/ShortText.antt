@@ -1,15 +1,14 @@
 -- A line that is read byte by byte.
-use Rattle.std.proofs.Common.{◌≡◌, ℕ, zero, suc, ◌+◌, ◌-◌, ◌^◌, ◌<◌, ◌≤◌, ◌⊎◌, inl, inr, min, true}
-use Rattle.std.proofs.Common.{false, cond, not, List, [], ◌∷◌, ◌++◌, length, map, take, drop, refl, sym, ap, subst, ◌∙◌}
-use Rattle.std.proofs.Common.{Option, Some, None, ◌==◌, arith, append_assoc, ap₂}
+use Rattle.std.proofs.Common.{◌≡◌, ℕ, zero, suc, ◌+◌, ◌-◌, ◌^◌, ◌<◌, ◌≤◌, inl, inr, min, true}
+use Rattle.std.proofs.Common.{false, cond, not, List, [], ◌∷◌, ◌++◌, length, map, take, drop, refl}
+use Rattle.std.proofs.Common.{sym, ap, ap₂, ◌∙◌, Option, Some, None, arith, append_assoc}
 use Rattle.std.proofs.Common.{length-append, length-take}
 use Rattle.std.specs.Prelude.{⊤}
 use Rattle.std.specs.List.{after_first, before_first, onto_first, position_or_len}
-use Rattle.std.specs.Io.KnownBytes.{Consumes, IsAtEnd, Keeps}
 use Rattle.std.proofs.lemmas.Bool.Decides.{nat_tests}
 use Rattle.std.proofs.lemmas.Grind.{common_steps}
 use Rattle.ascii_text.specs.Text.{is_newline, lines_of}
-use Rattle.byte_reading.specs.ShortLines.{AllLinesLaw, AreGiven, GivesByte, GivesLine, GivesNone}
+use Rattle.byte_reading.specs.ShortLines.{AllLinesLaw, GivesByte, GivesLine, GivesNone}
 use Rattle.byte_reading.specs.ShortLines.{short, short_lines, shown}
 
 one_more : (n : ℕ) → 1 + n ≡ suc n

@@ -1,6 +1,6 @@
 -- The lines of a text that is read block by block, each cut to 160 characters.
-use Rattle.std.specs.Prelude.{◌≡◌, ℕ, ◌-◌, ◌^◌, ◌<◌, ◌⊎◌, ◌&&◌, List, [], ◌∷◌, length, map, take, ⊤}
-use Rattle.std.specs.Prelude.{Option, Some, None, nat_le, if◌then◌else◌}
+use Rattle.std.specs.Prelude.{◌≡◌, ℕ, ◌-◌, ◌^◌, ◌<◌, ◌⊎◌, ◌&&◌, List, [], ◌∷◌, ◌++◌, length, map}
+use Rattle.std.specs.Prelude.{take, ⊤, Option, Some, None, nat_le, if◌then◌else◌}
 use Rattle.std.specs.List.{before_first, after_first}
 use Rattle.std.specs.Io.KnownBytes.{Consumes, IsAtEnd, Keeps}
 use Rattle.ascii_text.specs.Text.{is_newline, lines_of}
@@ -47,3 +47,9 @@ AreGiven text (line ∷ lines) =
 abbrev pub AllLinesLaw : Type 0
 AllLinesLaw = (text : List ℕ) (lines : List (List ℕ))
     → AreGiven text lines → lines ≡ short_lines text
+
+-- these lines are read of a text: all of its lines, or those before a read that fails
+abbrev pub AreRead : Option (List ℕ) → Type 0 → List (List ℕ) → Type 0
+AreRead None may_fail lines = ⊤
+AreRead (Some text) may_fail lines = length text < 2 ^ 64 - 1
+    → (lost : List (List ℕ)) × (short_lines text ≡ lines ++ lost) × ((lost ≡ []) ⊎ may_fail)

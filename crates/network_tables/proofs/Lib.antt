@@ -2,3 +2,5 @@ pub mod FrontFields
 pub mod Widest
 pub mod Names
 pub mod Silent
+pub mod BestSoFar
+pub mod RowsRead

@@ -1,7 +1,8 @@
-use crate::routes::{Routes, route_to};
+use crate::routes::{open_routes, route_to};
 use crate::system_cards::SystemCards;
-use crate::system_lines::{SystemLine, SystemLines, first_line};
+use crate::system_lines::{first_line, open_lines};
 use arrayvec::{ArrayString, ArrayVec};
+use byte_reading::ShortLine;
 use network_tables::{
     CardName, CardState, Cards, MOST_CARDS, OwnAddresses, Route, TreeLine, row_name,
 };
@@ -24,7 +25,7 @@ pub fn read_cards(rt: &HostRuntime) -> Cards {
         let name = card_of(&mut system, *address, own.as_slice(), networks.as_slice());
         cards.add(name, Some(*address));
     }
-    let mut lines = SystemLines::open(rt, NAMES);
+    let mut lines = open_lines(rt, NAMES);
     for _ in 0..u64::MAX {
         let Some(line) = lines.next_line() else {
             return cards;
@@ -38,7 +39,7 @@ pub fn read_cards(rt: &HostRuntime) -> Cards {
 
 fn read_addresses(rt: &HostRuntime) -> ArrayVec<[u8; 4], MOST_CARDS> {
     let mut own = OwnAddresses::new();
-    let mut lines = SystemLines::open(rt, TREE);
+    let mut lines = open_lines(rt, TREE);
     for _ in 0..u64::MAX {
         let Some(line) = lines.next_line() else {
             return own.addresses;
@@ -51,13 +52,15 @@ fn read_addresses(rt: &HostRuntime) -> ArrayVec<[u8; 4], MOST_CARDS> {
 // The routes to the networks at which cards are.
 fn read_networks(rt: &HostRuntime) -> ArrayVec<Route, MOST_CARDS> {
     let mut networks = ArrayVec::new();
-    let mut routes = Routes::open(rt);
+    let mut lines = open_routes(rt);
     for _ in 0..u64::MAX {
-        let Some(route) = routes.next_route() else {
+        let Some(line) = lines.next_line() else {
             return networks;
         };
-        if route.is_at_card() {
-            let _ = networks.try_push(route);
+        if let Some(route) = Route::read(line.as_bytes()) {
+            if route.is_at_card() {
+                let _ = networks.try_push(route);
+            }
         }
     }
     networks
@@ -83,7 +86,7 @@ pub fn card_index(rt: &HostRuntime, name: &str) -> Option<u32> {
 }
 
 // The first line of a file of a card; empty where there is none.
-fn card_line(rt: &HostRuntime, name: &str, file: &str) -> SystemLine {
+fn card_line(rt: &HostRuntime, name: &str, file: &str) -> ShortLine {
     let mut path = ArrayString::<64>::new();
     let _ = write!(path, "/sys/class/net/{name}/{file}");
     first_line(rt, path.as_str()).unwrap_or_default()

@@ -1,4 +1,4 @@
-use Rattle.std.proofs.Common.{◌≡◌, ◌∷◌, ◌++◌, ◌≤◌, ◌<◌, ℕ, [], length, sym, ◌∙◌, ap, arith, tests, take_all}
+use Rattle.std.proofs.Common.{◌∷◌, ◌++◌, ◌≤◌, ◌<◌, [], length, sym, ◌∙◌, ap, arith, take_all}
 use Rattle.std.proofs.lemmas.Bool.Decides.{nat_tests}
 use Rattle.std.proofs.lemmas.Grind.{common_steps}
 use Rattle.std.proofs.lemmas.List.{take-append-le}

@@ -1,4 +1,4 @@
-use Rattle.std.proofs.Common.{◌≡◌, ◌<◌, ◌==◌, false, length, subst, sym, arith, rules, tests}
+use Rattle.std.proofs.Common.{◌≡◌, ◌<◌, false, length, subst, arith, rules, tests}
 use Rattle.std.proofs.lemmas.Bool.Decides.{nat_tests}
 use Rattle.ascii_text.specs.Text.{is_newline}
 use Rattle.byte_reading.specs.LinesLeft.{bytes_left}
@@ -11,7 +11,8 @@ returns-else-is_empty-clause-some g c =
     let left = bytes_left g.B.BlockSource.left in
     let none = subst (GivesByte (left c.loop.self) (left c.next_byte.new.self)) c.in_default-next.is
     c.in-Ok.ensures.byte in
-    let long : 0 < length c.loop.line.bytes = grind (arith, nat_tests, c.is_empty.ensures, c.if-is_empty.false) in
+    let long : 0 < length c.loop.line.bytes
+    = grind (arith, nat_tests, c.is_empty.ensures, c.if-is_empty.false) in
     ends_text (left c.args.self.now) (left c.loop.self) (left c.next_byte.new.self)
     c.loop.line.bytes c.loop.counter c.loop.invariant.begun none long
 

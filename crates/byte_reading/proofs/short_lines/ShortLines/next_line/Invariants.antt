@@ -1,4 +1,3 @@
-use Rattle.std.proofs.Common.{◌≡◌}
 use Rattle.byte_reading.specs.LinesLeft.{bytes_left, source}
 use Rattle.byte_reading.proofs.ShortText.{Begun}
 use Rattle.byte_reading.proofs.short_lines.ShortLines.next_line.Given as goal
