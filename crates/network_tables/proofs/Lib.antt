@@ -4,3 +4,4 @@ pub mod Names
 pub mod Silent
 pub mod BestSoFar
 pub mod RowsRead
+pub mod TablesRead

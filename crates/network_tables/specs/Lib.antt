@@ -10,3 +10,4 @@ pub mod Tables
 pub mod Choices
 pub mod HiddenCards
 pub mod Texts
+pub mod CardTables

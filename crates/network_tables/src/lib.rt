@@ -6,6 +6,7 @@
 #![tactic(auto)]
 
 mod card;
+mod card_tables;
 mod choice;
 mod fields;
 mod hidden_cards;
@@ -20,6 +21,7 @@ mod texts;
 mod tree;
 
 pub use card::{CardState, card_state};
+pub use card_tables::{add_others, card_networks, own_addresses};
 pub use choice::{CardRefusal, CardWord, choose};
 pub use hidden_cards::HiddenCards;
 pub use holder::{Holder, card_among, holder_of, host_beside, is_widest};

@@ -1,6 +1,6 @@
 use byte_reading::ShortLines;
 use byte_reading::memory::MemoryBlocks;
-use network_tables::{best_route, next_neighbor};
+use network_tables::{Cards, add_others, best_route, card_networks, next_neighbor, own_addresses};
 
 // A read puts at most so many bytes into a block.
 const SIZES: &[usize] = &[1, 3, 5000];
@@ -16,6 +16,21 @@ const NEIGHBORS: &str = "IP address       HW type     Flags       HW address\n\
     10.0.0.8         0x1         0x2         00:00:5e:00:53:01\n\
     \n\
     10.0.0.9         0x1         0x0         00:00:00:00:00:00\n";
+
+// 10.0.0.2 is told twice, and 10.0.0.255 is a broadcast address.
+const TREE: &str = "Local:\n  +-- 0.0.0.0/0 3 0 5\n\
+    \x20    |-- 10.0.0.2\n\
+    \x20       /32 host LOCAL\n\
+    \x20    |-- 10.0.0.255\n\
+    \x20       /32 link BROADCAST\n\
+    \x20    |-- 127.0.0.1\n\
+    \x20       /32 host LOCAL\n\
+    \x20    |-- 10.0.0.2\n\
+    \x20       /32 host LOCAL\n";
+
+const CARDS: &str = "Inter-|   Receive\n face |bytes    packets\n\
+    \x20   lo:     100       1\n\
+    \x20 eth1:     100       1\n";
 
 fn read<'a>(text: &'a [u8], most: usize, is_broken: bool) -> ShortLines<MemoryBlocks<'a>> {
     ShortLines::new(MemoryBlocks {
@@ -88,5 +103,24 @@ fn each_neighbor_is_found(rt: HostRuntime) {
             assert!(rt; is_next);
         }
         assert!(rt; next_neighbor(&mut table).is_none());
+    }
+}
+
+#[test]
+fn each_card_and_address_is_found(rt: HostRuntime) {
+    for most in SIZES {
+        let networks = card_networks(&mut read(ROUTES.as_bytes(), *most, false));
+        assert!(rt; networks.as_slice().len() == 2);
+        assert!(rt;
+            networks
+                .as_slice()
+                .iter()
+                .all(|route| route.network == 0x0a00_0000)
+        );
+        let own = own_addresses(&mut read(TREE.as_bytes(), *most, false));
+        assert!(rt; own.as_slice() == [[10, 0, 0, 2], [127, 0, 0, 1]].as_slice());
+        let mut cards = Cards::new();
+        add_others(&mut cards, &mut read(CARDS.as_bytes(), *most, false));
+        assert!(rt; cards.as_slice().len() == 2 && cards.of_name("eth1").is_some());
     }
 }
