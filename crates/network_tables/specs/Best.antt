@@ -1,7 +1,7 @@
 -- Which route leads to a host.
 use Rattle.std.specs.Prelude.{◌≡◌, ℕ, ◌≤◌, ◌<◌, true, List, ◌∷◌, ◌++◌, fold, All}
-use Rattle.std.specs.Prelude.{Option, Some, None, nat_le, if◌then◌else◌}
-use Rattle.network_tables.specs.Routes.{RouteEntry, leads_to, width_of}
+use Rattle.std.specs.Prelude.{Option, Some, None, filter_map, nat_le, if◌then◌else◌}
+use Rattle.network_tables.specs.Routes.{RouteEntry, leads_to, route_of, width_of}
 
 -- the better of a route that leads to the host, and of the best before it
 abbrev pub wider : Option RouteEntry → RouteEntry → RouteEntry
@@ -15,6 +15,15 @@ better host best route = if leads_to host route then Some (wider best route) els
 -- the best of the routes of a table, read one by one
 abbrev pub best_among : List ℕ → List RouteEntry → Option RouteEntry
 best_among host routes = fold (better host) None routes
+
+-- the best after one line more, which may be no route's
+abbrev pub better_by : List ℕ → Option RouteEntry → Option RouteEntry → Option RouteEntry
+better_by host best (Some route) = better host best route
+better_by host best None = best
+
+-- the routes of a table; a line that is no route's, as the heading, is passed over
+abbrev pub routes_in : List (List ℕ) → List RouteEntry
+routes_in lines = filter_map route_of lines
 
 -- it does not lead to the host
 abbrev pub LeadsElsewhere : List ℕ → RouteEntry → Type 0

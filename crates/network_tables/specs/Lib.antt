@@ -2,6 +2,7 @@ pub mod Fields
 pub mod Routes
 pub mod Best
 pub mod Neighbors
+pub mod NeighborRows
 pub mod Cards
 pub mod Trees
 pub mod Holders
@@ -9,3 +10,4 @@ pub mod Tables
 pub mod Choices
 pub mod HiddenCards
 pub mod Texts
+pub mod CardTables

@@ -1,10 +1,9 @@
-use crate::routes::{Routes, route_to};
+use crate::routes::{open_routes, route_to};
 use crate::system_cards::SystemCards;
-use crate::system_lines::{SystemLine, SystemLines, first_line};
-use arrayvec::{ArrayString, ArrayVec};
-use network_tables::{
-    CardName, CardState, Cards, MOST_CARDS, OwnAddresses, Route, TreeLine, row_name,
-};
+use crate::system_lines::{first_line, open_lines};
+use arrayvec::ArrayString;
+use byte_reading::ShortLine;
+use network_tables::{CardName, CardState, Cards, add_others, card_networks, own_addresses};
 use packet_paths::{card_from, card_of};
 use std::fmt::Write;
 
@@ -16,51 +15,16 @@ const TREE: &str = "/proc/net/fib_trie";
 
 /// Reads the network cards of this machine from the system's files.
 pub fn read_cards(rt: &HostRuntime) -> Cards {
-    let networks = read_networks(rt);
-    let own = read_addresses(rt);
+    let networks = card_networks(&mut open_routes(rt));
+    let own = own_addresses(&mut open_lines(rt, TREE));
     let mut system = SystemCards::new(rt);
     let mut cards = Cards::new();
     for address in own.as_slice() {
         let name = card_of(&mut system, *address, own.as_slice(), networks.as_slice());
         cards.add(name, Some(*address));
     }
-    let mut lines = SystemLines::open(rt, NAMES);
-    for _ in 0..u64::MAX {
-        let Some(line) = lines.next_line() else {
-            return cards;
-        };
-        if let Some(name) = row_name(line.as_bytes()) {
-            cards.add_other(name);
-        }
-    }
+    add_others(&mut cards, &mut open_lines(rt, NAMES));
     cards
-}
-
-fn read_addresses(rt: &HostRuntime) -> ArrayVec<[u8; 4], MOST_CARDS> {
-    let mut own = OwnAddresses::new();
-    let mut lines = SystemLines::open(rt, TREE);
-    for _ in 0..u64::MAX {
-        let Some(line) = lines.next_line() else {
-            return own.addresses;
-        };
-        own.take_up(TreeLine::read(line.as_bytes()));
-    }
-    own.addresses
-}
-
-// The routes to the networks at which cards are.
-fn read_networks(rt: &HostRuntime) -> ArrayVec<Route, MOST_CARDS> {
-    let mut networks = ArrayVec::new();
-    let mut routes = Routes::open(rt);
-    for _ in 0..u64::MAX {
-        let Some(route) = routes.next_route() else {
-            return networks;
-        };
-        if route.is_at_card() {
-            let _ = networks.try_push(route);
-        }
-    }
-    networks
 }
 
 /// The card of an address of this machine that packets to a host come from.
@@ -83,7 +47,7 @@ pub fn card_index(rt: &HostRuntime, name: &str) -> Option<u32> {
 }
 
 // The first line of a file of a card; empty where there is none.
-fn card_line(rt: &HostRuntime, name: &str, file: &str) -> SystemLine {
+fn card_line(rt: &HostRuntime, name: &str, file: &str) -> ShortLine {
     let mut path = ArrayString::<64>::new();
     let _ = write!(path, "/sys/class/net/{name}/{file}");
     first_line(rt, path.as_str()).unwrap_or_default()

@@ -1,5 +1,6 @@
-use crate::system_lines::SystemLines;
-use network_tables::{Route, better};
+use crate::system_lines::{SystemFile, open_lines};
+use byte_reading::ShortLines;
+use network_tables::{Route, best_route};
 use std::net::{IpAddr, SocketAddr, UdpSocket};
 
 const ROUTES: &str = "/proc/net/route";
@@ -7,42 +8,14 @@ const ROUTES: &str = "/proc/net/route";
 // A datagram to this port is thrown away. None is sent.
 const PORT: u16 = 9;
 
-/// The routes of the system's main table, in its order.
-#[derive(Drop)]
-pub struct Routes {
-    lines: SystemLines,
-}
-
-impl Routes {
-    pub fn open(rt: &HostRuntime) -> Routes {
-        Routes {
-            lines: SystemLines::open(rt, ROUTES),
-        }
-    }
-
-    /// The next of them.
-    pub fn next_route(&mut self) -> Option<Route> {
-        for _ in 0..u64::MAX {
-            let line = self.lines.next_line()?;
-            if let Some(route) = Route::read(line.as_bytes()) {
-                return Some(route);
-            }
-        }
-        None
-    }
+/// The lines of the system's main table of routes.
+pub fn open_routes(rt: &HostRuntime) -> ShortLines<SystemFile> {
+    open_lines(rt, ROUTES)
 }
 
 /// The route of the main table that leads to a host: of several the first that looks at most bits.
 pub fn route_to(rt: &HostRuntime, host: [u8; 4]) -> Option<Route> {
-    let mut routes = Routes::open(rt);
-    let mut best: Option<Route> = None;
-    for _ in 0..u64::MAX {
-        let Some(route) = routes.next_route() else {
-            return best;
-        };
-        best = better(best, &route, host);
-    }
-    best
+    best_route(&mut open_routes(rt), host)
 }
 
 /// The address that a packet to this host would come from: the one that the system's route gives.

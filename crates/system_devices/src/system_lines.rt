@@ -1,67 +1,36 @@
-use arrayvec::ArrayString;
+ghost use Rattle.std.specs.Prelude.{None, ⊤};
+
+use byte_reading::{BlockSource, ShortLine, ShortLines, read_some};
 use std::fs::File;
-use std::io::Read;
+use std::io::ErrorKind;
 
-const ROOM: usize = 4096;
-
-/// A line of a file of the system, as far as there is room for it.
-pub type SystemLine = ArrayString<160>;
-
-/// The lines of a file that the system writes when it is read, as those of its network. A file that
-/// cannot be read has none.
+/// A file that the system writes when it is read, as those of its network. One that cannot be
+/// opened is empty. Contracts do not see what it has.
 #[derive(Drop)]
-pub struct SystemLines {
+pub struct SystemFile {
     file: Option<File>,
-    block: [u8; ROOM],
-    // So many bytes of the block came,
-    came: usize,
-    // and so many of these were given.
-    given: usize,
 }
 
-impl SystemLines {
-    /// The lines of the file of this name.
-    pub fn open(rt: &HostRuntime, name: &str) -> SystemLines {
-        SystemLines {
-            file: File::open(rt, name).ok(),
-            block: [0; ROOM],
-            came: 0,
-            given: 0,
-        }
-    }
+impl BlockSource for SystemFile {
+    ghost left = { λ _. None };
 
-    /// The next line, without its LF; a byte that is no printable ASCII is a blank.
-    pub fn next_line(&mut self) -> Option<SystemLine> {
-        let mut line = SystemLine::new();
-        for _ in 0..u64::MAX {
-            match self.next_byte() {
-                Some(b'\n') => return Some(line),
-                Some(byte @ b' '..=b'~') => {
-                    let _ = line.try_push(char::from(byte));
-                }
-                Some(_) => {
-                    let _ = line.try_push(' ');
-                }
-                None if line.is_empty() => return None,
-                None => return Some(line),
-            }
-        }
-        None
-    }
+    ghost may_fail = { λ _. ⊤ };
 
-    fn next_byte(&mut self) -> Option<u8> {
-        if self.given >= self.came {
-            self.given = 0;
-            self.came = 0;
-            self.came = self.file.as_mut()?.read(&mut self.block).ok()?;
+    fn next_block(&mut self, block: &mut [u8]) -> Result<usize, ErrorKind> {
+        match &mut self.file {
+            Some(file) => read_some(file, block),
+            None => Ok(0),
         }
-        let byte = *self.block.get(..self.came)?.get(self.given)?;
-        self.given = self.given.saturating_add(1);
-        Some(byte)
     }
+}
+
+/// The lines of the file of this name.
+pub fn open_lines(rt: &HostRuntime, name: &str) -> ShortLines<SystemFile> {
+    let file = File::open(rt, name).ok();
+    ShortLines::new(SystemFile { file })
 }
 
 /// The first line of a small file of the system.
-pub fn first_line(rt: &HostRuntime, name: &str) -> Option<SystemLine> {
-    SystemLines::open(rt, name).next_line()
+pub fn first_line(rt: &HostRuntime, name: &str) -> Option<ShortLine> {
+    open_lines(rt, name).next_line()
 }

@@ -1,6 +1,7 @@
 mod cards;
 mod following;
 mod head;
+mod lines;
 mod lock;
 mod machine;
 mod memory;

@@ -1,0 +1,2 @@
+pub mod ShortText
+pub mod ReadLines
