@@ -3,3 +3,7 @@ pub mod Input
 pub mod Failure
 pub mod Kept
 pub mod InputEnd
+pub mod BoothSteps
+pub mod Booth
+pub mod BoothLaws
+pub mod BoothKept
