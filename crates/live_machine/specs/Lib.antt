@@ -1,7 +1,11 @@
+pub mod Booth
+pub mod BoothKept
+pub mod BoothLaws
+pub mod BoothSteps
 pub mod Clock
-pub mod Input
 pub mod Failure
-pub mod Kept
+pub mod Input
 pub mod InputEnd
+pub mod Kept
 pub mod NightDevices
 pub mod NightStart
