@@ -6,7 +6,7 @@ use arrayvec::ArrayVec;
 use cmd_live::{Booth, Heard};
 use devices::{Link, LinkFault};
 use live_input::Reason;
-use live_machine::{Came, InputEnd, NightClock, NightInput};
+use live_machine::{BoothMachine, BoothNote, Came, Hearing, NightBooth, NightClock, NightInput};
 use night_lines::{input_ended_line, typed_end_line};
 use night_record::{NightLines, line_moment, where_moment};
 use remarks::refused_line;
@@ -20,10 +20,15 @@ const MAIN_LEADS: &str = "the main leads; take ends the following";
 /// It does not tell what it did.
 #[derive(Drop)]
 pub struct LiveBooth<'a> {
+    booth: NightBooth<LiveMachine<'a>>,
+}
+
+// The devices of a booth on this machine. They do not tell.
+#[derive(Drop)]
+struct LiveMachine<'a> {
     rt: &'a HostRuntime,
     clock: NightClock<SystemClock<'a>>,
     input: NightInput<TypedInput<'a>>,
-    input_end: InputEnd,
     night_record: Record,
     screen: Screen,
     watch: Option<LinkTeller<'a>>,
@@ -38,44 +43,33 @@ impl<'a> LiveBooth<'a> {
         night_record: Record,
         screen: Screen,
     ) -> Self {
-        LiveBooth {
+        let ends_night = input.ends_night;
+        let machine = LiveMachine {
             rt,
             clock: NightClock::new(SystemClock::new(rt, start), 0),
             input,
-            input_end: InputEnd::new(),
             night_record,
             screen,
             watch: None,
+        };
+        LiveBooth {
+            booth: NightBooth::new(machine, ends_night),
         }
     }
 
     /// From now on the cards, addresses and routes are watched.
     pub fn watch(&mut self, watch: LinkTeller<'a>) {
-        self.watch = Some(watch);
-    }
-
-    // Looks if nodes get what is sent, at this moment of the night.
-    fn look(&mut self, moment: u64) {
-        if let Some(watch) = &mut self.watch {
-            watch.look(self.rt, moment, &mut self.screen);
-        }
+        self.booth.machine.watch = Some(watch);
     }
 
     /// The screen.
     pub fn screen(&mut self) -> &mut Screen {
-        &mut self.screen
+        &mut self.booth.machine.screen
     }
 
     /// Keeps a line of a main's record: none is dropped where that may take time.
     pub fn keep_led(&mut self, line: &[u8], may_wait: bool) {
-        if let Some(led) = line_moment(line) {
-            self.clock.start = led;
-        }
-        if may_wait {
-            self.night_record.copy(line, self.screen.messages());
-        } else {
-            self.night_record.keep(line, self.screen.messages());
-        }
+        self.booth.keep_led(line, line_moment(line), may_wait);
     }
 
     /// Waits at most so long for what is typed while the night follows a main.
@@ -84,34 +78,89 @@ impl<'a> LiveBooth<'a> {
         milliseconds: u64,
         typed: &mut NightLines,
     ) -> Result<Came, LinkFault> {
-        self.look(self.clock.start);
-        self.screen.hand_on();
-        typed.hear(&mut self.input.input, milliseconds)
+        self.booth.wait_led(milliseconds, typed)
     }
 
     /// Tells that a line which was typed while the night follows a main is not carried out.
     pub fn refuse_led(&mut self, text: &[u8]) {
-        self.screen.tell(refused_line(text, MAIN_LEADS).as_slice());
+        self.screen()
+            .tell(refused_line(text, MAIN_LEADS).as_slice());
     }
 
     /// The night goes on by itself from now on, with this that was typed and is not answered yet.
     pub fn lead(&mut self, now: Instant, typed: ArrayVec<u8, 4096>, has_ended: bool) {
-        self.clock.clock.start = now;
-        self.input.held = typed;
-        self.input.has_ended = has_ended;
+        let machine = &mut self.booth.machine;
+        machine.clock.clock.start = now;
+        machine.input.hold(typed, has_ended);
     }
 
     /// Hands on what waits, at the end of the night, and waits for writers.
     pub fn finish(&mut self) {
-        self.night_record.finish(self.rt, self.screen.messages());
-        self.screen.finish(self.rt);
+        self.booth.finish();
+    }
+}
+
+impl BoothMachine for LiveMachine<'_> {
+    type Typed = NightLines;
+
+    ghost tells = { λ _. ⊥ };
+
+    ghost steps = { λ _. [] };
+
+    fn hand_on(&mut self) {
+        self.screen.hand_on();
     }
 
-    // Tells once that the night goes on without its input.
-    fn tell_input_ended(&mut self, moment: u64) {
-        if self.input_end.is_told(moment) {
-            self.screen.tell(input_ended_line().as_bytes());
+    fn moment(&mut self) -> Result<u64, LinkFault> {
+        self.clock.moment()
+    }
+
+    fn look(&mut self, moment: u64) {
+        if let Some(watch) = &mut self.watch {
+            watch.look(self.rt, moment, &mut self.screen);
         }
+    }
+
+    fn tell_again(&mut self, moment: u64) {
+        if let Some(watch) = &self.watch {
+            watch.tell_again(self.rt, moment, &mut self.screen);
+        }
+    }
+
+    fn hear(&mut self, moment: u64, due: u64, block: &mut [u8; 4096]) -> Result<Came, LinkFault> {
+        self.input.hear(moment, due, block)
+    }
+
+    fn hear_led(&mut self, milliseconds: u64, typed: &mut NightLines) -> Result<Came, LinkFault> {
+        typed.hear(&mut self.input.input, milliseconds)
+    }
+
+    fn tell(&mut self, note: BoothNote) {
+        let line = match note {
+            BoothNote::InputEnded => input_ended_line(),
+            BoothNote::TypedEnd => typed_end_line(),
+        };
+        self.screen.tell(line.as_bytes());
+    }
+
+    fn keep(&mut self, line: &[u8]) {
+        self.night_record.keep(line, self.screen.messages());
+    }
+
+    fn copy(&mut self, line: &[u8]) {
+        self.night_record.copy(line, self.screen.messages());
+    }
+
+    fn show(&mut self, line: &[u8]) {
+        self.screen.show(line);
+    }
+
+    fn finish_record(&mut self) {
+        self.night_record.finish(self.rt, self.screen.messages());
+    }
+
+    fn finish_screen(&mut self) {
+        self.screen.finish(self.rt);
     }
 }
 
@@ -130,55 +179,38 @@ impl Booth for LiveBooth<'_> {
     } };
 
     fn begin(&mut self, moment: u64) {
-        self.clock.start = moment;
+        self.booth.machine.clock.start = moment;
     }
 
     // The night asks for the moment at each turn, so what waits is offered again at each.
     fn moment(&mut self) -> Result<u64, LinkFault> {
-        self.screen.hand_on();
-        let moment = self.clock.moment()?;
-        self.look(moment);
-        self.tell_input_ended(moment);
-        Ok(moment)
+        self.booth.moment()
     }
 
     fn wait(&mut self, moment: u64, due: u64, block: &mut [u8; 4096]) -> Result<Heard, LinkFault> {
-        match self.input.hear(moment, due, block)? {
-            Came::Bytes(count) => Ok(Heard::Bytes(count)),
-            Came::TypedEnd => {
-                self.screen.tell(typed_end_line().as_bytes());
-                Ok(Heard::Nothing)
-            }
-            Came::End => {
-                let ends_night = self.input.ends_night;
-                self.input_end.come(moment, ends_night);
-                Ok(Heard::End(ends_night))
-            }
-            Came::Nothing => Ok(Heard::Nothing),
+        match self.booth.wait(moment, due, block)? {
+            Hearing::Bytes(count) => Ok(Heard::Bytes(count)),
+            Hearing::End(ends_night) => Ok(Heard::End(ends_night)),
+            Hearing::Nothing => Ok(Heard::Nothing),
         }
     }
 
     fn keep<L: Link>(&mut self, line: &[u8], _link: &L) -> Result<(), LinkFault> {
-        self.night_record.keep(line, self.screen.messages());
-        self.input_end.pass_line(line);
+        self.booth.keep(line);
         Ok(())
     }
 
     fn show<L: Link>(&mut self, line: &[u8], _link: &L) -> Result<(), LinkFault> {
-        self.screen.show(line);
-        if let Some(moment) = where_moment(line)
-            && let Some(watch) = &self.watch
-        {
-            watch.tell_again(self.rt, moment, &mut self.screen);
-        }
+        self.booth.show(line, where_moment(line));
         Ok(())
     }
 
     fn refuse(&mut self, text: &[u8], why: Reason) {
-        self.screen.tell(refused_line(text, why.text()).as_slice());
+        self.screen()
+            .tell(refused_line(text, why.text()).as_slice());
     }
 
     fn ignore_keys(&mut self) {
-        self.screen.tell(b"keys ignored\n");
+        self.screen().tell(b"keys ignored\n");
     }
 }

@@ -1,3 +1,7 @@
+pub mod Booth
+pub mod BoothKept
+pub mod BoothLaws
+pub mod BoothSteps
 pub mod Clock
 pub mod Input
 pub mod Failure

@@ -96,6 +96,14 @@ impl<I: MachineInput> NightInput<I> {
         }
     }
 
+    /// Holds what was typed already, and whether the input ended behind it, until it is heard.
+    pub fn hold(&mut self, typed: ArrayVec<u8, 4096>, has_ended: bool)
+        ensures { self.new ≡ record self.old { held = typed; has_ended = has_ended } }
+    {
+        self.held = typed;
+        self.has_ended = has_ended;
+    }
+
     /// Waits for what is typed, from a moment to what is due, both in milliseconds from the start
     /// of the night, and at most [`TURN`]; and writes it to the front of the block. What was typed
     /// already comes first, and then that the input ended: neither is waited for.

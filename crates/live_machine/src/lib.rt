@@ -3,8 +3,9 @@
 //!
 //! A [`NightClock`] makes moments of what a [`MachineClock`] shows, and a [`NightInput`] says how
 //! long a [`MachineInput`] is waited for. An [`InputEnd`] says when it is told that a night goes on
-//! without its input. Those of the system never tell what they gave; those over
-//! memory ([`memory`]) do, and stand in for them in tests.
+//! without its input, and a [`NightBooth`] in which order its [`BoothMachine`] hands on, looks,
+//! hears, keeps and tells. The machines of the system never tell what they did; those over memory
+//! ([`memory`]) do, and stand in for them in tests.
 //!
 //! ```
 //! let mut clock = NightClock::new(machine_clock, 0);
@@ -14,12 +15,16 @@
 //! ```
 #![tactic(auto)]
 
+mod booth;
+mod booth_machine;
 mod clock;
 mod failure;
 mod input;
 mod input_end;
 pub mod memory;
 
+pub use booth::{Hearing, NightBooth, booth_law};
+pub use booth_machine::{BoothMachine, BoothNote};
 pub use clock::{MachineClock, NightClock, clock_law};
 pub use failure::reason;
 pub use input::{Came, MachineInput, NightInput, TURN};

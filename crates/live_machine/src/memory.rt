@@ -1,7 +1,10 @@
-//! A clock and an input over memory: they tell what they did, and some of their calls fail.
+//! A clock, an input and the machine of a booth over memory: they tell what they did, and some of
+//! the calls of a clock and an input fail.
 
+mod booth;
 mod clock;
 mod input;
 
+pub use booth::{MemoryBooth, MemoryHearing, MemoryStep};
 pub use clock::MemoryClock;
 pub use input::{MemoryInput, MemoryWait};

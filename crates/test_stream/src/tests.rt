@@ -1,3 +1,4 @@
+mod booth;
 mod cards;
 mod following;
 mod head;
