@@ -1,9 +1,11 @@
+use crate::network_lines::night_sources;
 use crate::screen::Screen;
-use link_notices::{LinkNotice, LinkNotices, LinkWatch, NetworkLook, PathNotice, SourceNotice};
-use night_lines::{Way, path_notice_line, source_notice_line};
+use link_notices::{LinkNotice, LinkNotices, LinkWatch, NetworkLook};
+use network_tables::Route;
+use night_lines::{NoticeNetwork, RoutedNotice, RoutedNotices, host_to_route, tell_notices};
 use std::cell::RefCell;
 use std::time::Instant;
-use system_devices::{Network, Path, Source, SystemNetwork, route_to};
+use system_devices::{Network, Path, SystemNetwork, route_to};
 
 /// Watches the cards, addresses and routes of a night, and tells what changes: so that an operator
 /// knows when nodes get nothing. A look takes microseconds, and waits for nothing.
@@ -48,51 +50,34 @@ impl<'a> LinkTeller<'a> {
     }
 
     fn tell(&self, rt: &HostRuntime, moment: u64, notices: &LinkNotices, screen: &mut Screen) {
+        if notices.is_empty() {
+            return;
+        }
         let Ok(network) = self.network.try_borrow() else {
             return;
         };
-        for notice in notices.as_slice() {
-            match *notice {
-                LinkNotice::Source { place, notice } => {
-                    if let Some(source) = network.sources().get(place) {
-                        tell_source(moment, source, notice, screen);
-                    }
-                }
-                LinkNotice::Path { place, notice } => {
-                    if let Some(path) = network.paths().get(place) {
-                        tell_path(rt, moment, (&network, path), notice, screen);
-                    }
-                }
-            }
-        }
+        let sources = night_sources(&network);
+        let told = NoticeNetwork {
+            sources: sources.as_slice(),
+            paths: network.paths(),
+        };
+        let routed = routed_notices(rt, notices, network.paths());
+        tell_notices(screen, moment, routed.as_slice(), &told);
     }
 }
 
-// Tells how a source is, behind how it was.
-fn tell_source(moment: u64, source: &Source, notice: SourceNotice, screen: &mut Screen) {
-    let line = source_notice_line(moment, &source.card_address(), notice);
-    screen.tell(line.as_str().as_bytes());
+// The notices, each with the route that leads to its host where that is told.
+fn routed_notices(rt: &HostRuntime, notices: &LinkNotices, paths: &[Path]) -> RoutedNotices {
+    let mut routed = RoutedNotices::new();
+    for notice in notices.as_slice() {
+        let _ = routed.try_push(RoutedNotice {
+            notice: *notice,
+            route: route_of(rt, notice, paths),
+        });
+    }
+    routed
 }
 
-// Tells what is wrong with the way to a host, behind what was.
-fn tell_path(
-    rt: &HostRuntime,
-    moment: u64,
-    (network, path): (&Network, &Path),
-    notice: PathNotice,
-    screen: &mut Screen,
-) {
-    let way = Way {
-        host: path.host,
-        state: path.state,
-        source: network.source_of(path).map(Source::card_address),
-        neighbor: path.neighbor,
-    };
-    let route = if notice.is_first_route() {
-        route_to(rt, path.host)
-    } else {
-        None
-    };
-    let line = path_notice_line(moment, &way, notice, route);
-    screen.tell(line.as_str().as_bytes());
+fn route_of(rt: &HostRuntime, notice: &LinkNotice, paths: &[Path]) -> Option<Route> {
+    route_to(rt, host_to_route(notice, paths)?)
 }

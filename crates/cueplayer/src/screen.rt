@@ -1,6 +1,9 @@
+ghost use Rattle.std.specs.Prelude.{[]};
+
 use line_queue::{
     GivenBytes, Notice, OutputNotice, OutputWatch, WrittenFiles, outputs_owed_line, owed_by_outputs,
 };
+use night_lines::LineTeller;
 use std::io::Stdout;
 use system_devices::{BoundedOutput, DeviceFault, Messages, Names, PipedOutput, wait_for_writers};
 
@@ -90,6 +93,16 @@ impl Screen {
         if self.watch.look(self.replies.look()) == Some(OutputNotice::Failed) {
             self.messages.tell(b"replies: device fault\n");
         }
+    }
+}
+
+impl LineTeller for Screen {
+    ghost tells = { λ _. ⊥ };
+
+    ghost lines = { λ _. [] };
+
+    fn tell(&mut self, line: &[u8]) {
+        Screen::tell(self, line);
     }
 }
 

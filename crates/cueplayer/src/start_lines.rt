@@ -1,17 +1,17 @@
-ghost use Rattle.std.specs.Prelude.{◌<◌, ◌^◌, length};
+ghost use Rattle.std.specs.Prelude.{◌<◌, ◌≤◌, ◌^◌, length, IfSome};
 
-use crate::network_lines::tell_network;
+use crate::network_lines::{night_sources, other_cards, routed_sources};
 use crate::screen::Screen;
+use arrayvec::ArrayVec;
 use cmd_explain::{seems, weigh};
 use cmd_faults::RunFault;
 use cmd_words::{Night, source_name};
 use night_lines::{
-    MainNight, Recording, Transmission, contents_line, ending_line, main_line, no_record_line,
-    record_line, sends_line, take_line,
+    MainNight, NightSources, NightStart, Recording, StartNetwork, StartShow, Transmission,
+    tell_start,
 };
 use patch::has_numbers;
-use remarks::{of_name, of_seeming};
-use show::Show;
+use remarks::{NameText, Remark, of_name, of_seeming};
 use show_reader::{Loaded, read_show};
 use std::env::{self, VarError};
 use system_devices::Network;
@@ -55,61 +55,109 @@ impl StartLines<'_, '_, '_> {
         }
         let weight = weigh(rt.alloc(), self.show, loaded)?;
         let is_interruptible = is_interruptible(rt)?;
-        let contents = contents_line(loaded.show.counts(), loaded.skipped, weight.notes);
-        screen.tell(contents.as_str().as_bytes());
-        if let Some(what) = seems(self.show)
-            && loaded.show.counts().cues == 0
-        {
-            screen.tell(of_seeming(what).as_slice());
-            screen.tell(b"\n");
-        }
-        tell_sends(self.night, &loaded.show, screen);
-        tell_network(rt, self.night, self.network, screen);
-        tell_record(self.recorded, screen);
-        match self.followed {
-            Some(main) => tell_main(main, screen),
-            None => screen.tell(ending_line(is_interruptible).as_bytes()),
-        }
+        let is_named = self.night.interface.is_some();
+        let seeming = seeming_line(self.show);
+        let universes = loaded.show.universes();
+        let sources = self.sources(rt, is_named);
+        let cards = other_cards(rt, self.network, is_named);
+        let record_name = record_name(self.recorded);
+        let main_name = main_name(self.followed);
+        let start = NightStart {
+            show: StartShow {
+                counts: loaded.show.counts(),
+                skipped: loaded.skipped,
+                notes: weight.notes,
+                seeming: text_of(&seeming),
+            },
+            sends: transmission(self.night, &universes),
+            network: StartNetwork {
+                sources: &sources,
+                paths: self.network.paths(),
+                cards: &cards,
+                is_named,
+            },
+            recording: shown_record(self.recorded, record_name.as_str()),
+            main: shown_main(self.followed, main_name.as_str()),
+            is_interruptible,
+        };
+        tell_start(screen, &start);
         Ok(())
+    }
+
+    // Routes are told where no card was named.
+    fn sources(&self, rt: &HostRuntime, is_named: bool) -> NightSources {
+        if is_named {
+            night_sources(self.network)
+        } else {
+            routed_sources(rt, self.network)
+        }
     }
 }
 
-fn tell_sends(night: &Night, show: &Show, screen: &mut Screen) {
-    let universes = show.universes();
-    let sends = Transmission {
+// The line of what the file of a show seems to be, where that is no text.
+fn seeming_line(show: &[u8]) -> Option<Remark> {
+    let mut line = of_seeming(seems(show)?);
+    let _ = line.try_push(b'\n');
+    Some(line)
+}
+
+fn text_of(line: &Option<Remark>) -> Option<&[u8]> {
+    match line {
+        Some(line) => Some(line.as_slice()),
+        None => None,
+    }
+}
+
+fn transmission<'a>(night: &'a Night, universes: &'a ArrayVec<u16, 16>) -> Transmission<'a> {
+    Transmission {
         base: night.base,
-        ordinals: &universes,
+        ordinals: universes,
         targets: &night.targets,
         priority: night.priority,
         cid: night.cid,
         name: source_name(night),
-    };
-    if let Some(line) = sends_line(&sends) {
-        screen.tell(line.as_str().as_bytes());
     }
 }
 
-fn tell_record(recording: Option<Recording<'_>>, screen: &mut Screen) {
-    let Some(recording) = recording else {
-        screen.tell(no_record_line().as_bytes());
-        return;
-    };
-    let shown = of_name(recording.file);
-    let line = record_line(&Recording {
-        file: shown.as_str(),
-        ..recording
-    });
-    screen.tell(line.as_str().as_bytes());
+// The name of a record's file, as it is shown.
+fn record_name(recorded: Option<Recording<'_>>) -> NameText
+    ensures { length result.bytes ≤ 200 }
+{
+    match recorded {
+        Some(recording) => of_name(recording.file),
+        None => NameText::new(),
+    }
 }
 
-fn tell_main(main: MainNight<'_>, screen: &mut Screen) {
-    let shown = of_name(main.file);
-    let line = main_line(&MainNight {
-        file: shown.as_str(),
-        ..main
-    });
-    screen.tell(line.as_str().as_bytes());
-    screen.tell(take_line().as_bytes());
+// Where the night is recorded, under this name.
+fn shown_record<'a>(recorded: Option<Recording<'a>>, name: &'a str) -> Option<Recording<'a>>
+    requires { length name.now ≤ 200 }
+    ensures { IfSome result (λ one. length one.file.now ≤ 256) }
+{
+    let recording = recorded?;
+    Some(Recording {
+        file: name,
+        ..recording
+    })
+}
+
+// The name of a main's record, as it is shown.
+fn main_name(followed: Option<MainNight<'_>>) -> NameText
+    ensures { length result.bytes ≤ 200 }
+{
+    match followed {
+        Some(main) => of_name(main.file),
+        None => NameText::new(),
+    }
+}
+
+// The main that the night follows, under this name.
+fn shown_main<'a>(followed: Option<MainNight<'a>>, name: &'a str) -> Option<MainNight<'a>>
+    requires { length name.now ≤ 200 }
+    ensures { IfSome result (λ one. length one.file.now ≤ 256) }
+{
+    let main = followed?;
+    Some(MainNight { file: name, ..main })
 }
 
 // Whether control-C ends the night.

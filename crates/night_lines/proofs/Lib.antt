@@ -1,1 +1,3 @@
 mod Rows
+mod RowsStart
+mod Told

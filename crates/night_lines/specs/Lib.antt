@@ -7,3 +7,8 @@ pub mod Routes
 pub mod Notices
 pub mod OtherCards
 pub mod Led
+pub mod Sources
+pub mod NoticeLines
+pub mod StartNetworks
+pub mod Starts
+pub mod Kept

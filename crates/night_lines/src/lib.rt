@@ -1,6 +1,8 @@
 //! What an operator is told at the start of a night, and about its network.
 //!
-//! Each line is made from plain data, and has room in its text. Nothing here opens, looks or tells.
+//! Each line is made from plain data, and has room in its text. Which lines are told at the start,
+//! and in which order, is decided here too: they are told to a [`LineTeller`]. Nothing here opens or
+//! looks.
 #![tactic(auto)]
 
 mod cid;
@@ -8,6 +10,9 @@ mod clock;
 mod contents;
 mod ending;
 mod follow;
+pub mod memory;
+mod night_source;
+mod notices;
 mod other_cards;
 mod path_notices;
 mod place;
@@ -15,7 +20,10 @@ mod record;
 mod sends;
 mod source_notices;
 mod sources;
+mod start;
+mod start_network;
 mod target_lines;
+mod teller;
 
 use arrayvec::ArrayString;
 pub use clock::{ClockText, clock_text};
@@ -25,6 +33,8 @@ pub use follow::{
     FollowingLine, MainNight, leading_line, led_help_line, led_reminder_line, main_line,
     missing_line, over_line, take_line,
 };
+pub use night_source::{NightSource, NightSources};
+pub use notices::{NoticeNetwork, RoutedNotice, RoutedNotices, host_to_route, tell_notices};
 pub use other_cards::{OtherCardsLine, other_cards_line};
 pub use path_notices::{Way, path_notice_line};
 pub use place::Place;
@@ -32,7 +42,10 @@ pub use record::{Recording, no_record_line, record_line};
 pub use sends::{Transmission, sends_line};
 pub use source_notices::{NoticeLine, source_notice_line};
 pub use sources::{NoRouteLine, OriginLine, no_route_line, origin_line};
+pub use start::{NightStart, StartShow, tell_start};
+pub use start_network::{StartNetwork, are_cards_told, first_host};
 pub use target_lines::{TargetLine, sole_target, target_line};
+pub use teller::LineTeller;
 
 /// A line of what is sent, recorded or followed: 16 universes, or a file's name of 256 bytes, have
 /// room.

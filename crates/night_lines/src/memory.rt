@@ -1,0 +1,63 @@
+//! A teller over memory, which keeps its lines.
+
+ghost use Rattle.std.specs.Prelude.{◌≡◌, false, [], ◌∷◌, ◌++◌, map, OnOk};
+ghost use Rattle.night_lines.specs.Kept.{line_of};
+
+use crate::teller::LineTeller;
+use std::alloc::{AllocError, Global};
+
+/// A line that a teller over memory was told.
+#[derive(Debug, Drop)]
+pub struct MemoryLine {
+    pub bytes: Vec<u8>,
+}
+
+/// A teller over memory. It stops telling where memory for a line is refused.
+#[derive(Debug, Drop)]
+pub struct MemoryTeller {
+    alloc: Global,
+    /// The lines, the first first.
+    pub lines: Vec<MemoryLine>,
+    /// Memory was refused: lines are missing.
+    pub full: bool,
+}
+
+impl MemoryTeller {
+    /// A teller that was told nothing yet.
+    pub fn new(alloc: Global) -> Self
+        ensures lines { result.lines.items ≡ [] }
+        ensures tells { result.full ≡ false }
+    {
+        MemoryTeller {
+            alloc,
+            lines: Vec::new(alloc),
+            full: false,
+        }
+    }
+}
+
+fn keep(alloc: Global, lines: &mut Vec<MemoryLine>, line: &[u8]) -> Result<(), AllocError>
+    ensures { OnOk result
+        (map line_of lines.new.items ≡ map line_of lines.old.items ++ line.now ∷ []) }
+{
+    let bytes = Vec::from_slice(alloc, line)?;
+    lines.push(MemoryLine { bytes })?;
+    Ok(())
+}
+
+impl LineTeller for MemoryTeller {
+    ghost tells = { λ m. m.full ≡ false };
+
+    ghost lines = { λ m. map line_of m.lines.items };
+
+    fn tell(&mut self, line: &[u8])
+        ensures told { self.new.full ≡ false → self.old.full ≡ false }
+        ensures line { self.new.full ≡ false
+            → map line_of self.new.lines.items
+            ≡ map line_of self.old.lines.items ++ line.now ∷ [] }
+    {
+        if keep(self.alloc, &mut self.lines, line).is_err() {
+            self.full = true;
+        }
+    }
+}

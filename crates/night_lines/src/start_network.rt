@@ -1,0 +1,137 @@
+ghost use Rattle.std.specs.Prelude.{◌≡◌, ◌++◌, filter_map, map, option_map};
+ghost use Rattle.std.specs.List.{find, list_any};
+ghost use Rattle.std.specs.Option.{option_to_list};
+ghost use Rattle.packet_paths.specs.Hosts.{is_multicast};
+ghost use Rattle.night_lines.specs.StartNetworks as spec;
+
+use crate::night_source::{NightSource, NightSources};
+use crate::other_cards::other_cards_line;
+use crate::sources::{OriginLine, no_route_line, origin_line};
+use crate::teller::LineTeller;
+use arrayvec::ArrayVec;
+use link_notices::MOST_SOURCES;
+use network_tables::Cards;
+use packet_paths::{Path, is_multicast};
+
+/// By which cards and routes the packets of a night leave this machine, as it was found at the
+/// start.
+#[derive(Clone, Copy)]
+pub struct StartNetwork<'a> {
+    pub sources: &'a NightSources,
+    /// The ways to the hosts that packets go to.
+    pub paths: &'a [Path],
+    /// The cards of this machine; none are needed where [`are_cards_told`] does not hold.
+    pub cards: &'a Cards,
+    /// The card to send by was named.
+    pub is_named: bool,
+}
+
+/// The host whose route is told of the source at a place: the first that packets go to from there.
+pub fn first_host(paths: &[Path], place: usize) -> Option<[u8; 4]>
+    ensures { result ≡ option_map (λ path. path.host) (find (spec.is_from place) paths.now) }
+{
+    for path in paths {
+        if is_from(path, place) {
+            return Some(path.host);
+        }
+    }
+    None
+}
+
+fn is_from(path: &Path, place: usize) -> bool
+    ensures { result ≡ spec.is_from place path.now }
+{
+    match path.source {
+        Some(source) => source == place,
+        None => false,
+    }
+}
+
+/// Whether it is told which other cards there are: where no card was named, and packets go to a
+/// multicast group, for which the system chooses the card.
+pub fn are_cards_told(paths: &[Path], is_named: bool) -> bool
+    ensures { result ≡ spec.are_cards_told paths.now is_named }
+{
+    !is_named && any_multicast(paths)
+}
+
+fn any_multicast(paths: &[Path]) -> bool
+    ensures { result ≡ list_any (λ path. is_multicast path.host) paths.now }
+{
+    paths.iter().any(|path| is_multicast(path.host))
+}
+
+// Tells by which cards and routes packets leave, and which other cards there are.
+pub(crate) fn tell_network<T: LineTeller>(teller: &mut T, network: &StartNetwork<'_>)
+    ensures told { T.tells teller.new → T.tells teller.old }
+    ensures lines { T.tells teller.new
+        → T.lines teller.new ≡ T.lines teller.old ++ spec.network_lines network.now }
+{
+    tell_sources(teller, network.sources.as_slice(), network.is_named);
+    tell_other_cards(teller, network);
+    tell_missing_routes(teller, network.paths);
+}
+
+fn tell_sources<T: LineTeller>(teller: &mut T, sources: &[NightSource], is_named: bool)
+    ensures told { T.tells teller.new → T.tells teller.old }
+    ensures lines { T.tells teller.new
+        → T.lines teller.new ≡ T.lines teller.old ++ map (spec.source_line is_named) sources.now }
+{
+    for source in sources {
+        teller.tell(source_line(source, is_named).as_str().as_bytes());
+    }
+}
+
+fn source_line(source: &NightSource, is_named: bool) -> OriginLine
+    ensures { result.bytes ≡ spec.source_line is_named source.now }
+{
+    if is_named {
+        origin_line(&source.card_address(), None)
+    } else {
+        origin_line(&source.card_address(), source.route)
+    }
+}
+
+fn tell_other_cards<T: LineTeller>(teller: &mut T, network: &StartNetwork<'_>)
+    ensures told { T.tells teller.new → T.tells teller.old }
+    ensures lines { T.tells teller.new
+        → T.lines teller.new ≡ T.lines teller.old ++ spec.card_lines network.now }
+{
+    if !are_cards_told(network.paths, network.is_named) {
+        return;
+    }
+    let addresses = addresses(network.sources);
+    if let Some(line) = other_cards_line(network.cards, addresses.as_slice()) {
+        teller.tell(line.as_str().as_bytes());
+    }
+}
+
+fn addresses(sources: &NightSources) -> ArrayVec<[u8; 4], MOST_SOURCES>
+    ensures { result.items ≡ map (λ source. source.address) sources.now.items }
+{
+    let mut addresses = ArrayVec::new();
+    for source in sources.as_slice() {
+        addresses.push(source.address);
+    }
+    addresses
+}
+
+fn tell_missing_routes<T: LineTeller>(teller: &mut T, paths: &[Path])
+    ensures told { T.tells teller.new → T.tells teller.old }
+    ensures lines { T.tells teller.new
+        → T.lines teller.new ≡ T.lines teller.old ++ filter_map spec.no_route_told paths.now }
+{
+    for path in paths {
+        tell_missing_route(teller, path);
+    }
+}
+
+fn tell_missing_route<T: LineTeller>(teller: &mut T, path: &Path)
+    ensures told { T.tells teller.new → T.tells teller.old }
+    ensures line { T.tells teller.new → T.lines teller.new
+        ≡ T.lines teller.old ++ option_to_list (spec.no_route_told path.now) }
+{
+    if path.is_without_route() {
+        teller.tell(no_route_line(path.host).as_str().as_bytes());
+    }
+}
