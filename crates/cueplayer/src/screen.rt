@@ -1,8 +1,6 @@
 ghost use Rattle.std.specs.Prelude.{[]};
 
-use line_queue::{
-    GivenBytes, Notice, OutputNotice, OutputWatch, WrittenFiles, outputs_owed_line, owed_by_outputs,
-};
+use line_queue::{GivenBytes, Notice, OutputLook, ScreenOutputs, WrittenFiles, owed_by_outputs};
 use night_lines::LineTeller;
 use std::io::Stdout;
 use system_devices::{BoundedOutput, DeviceFault, Messages, Names, PipedOutput, wait_for_writers};
@@ -32,9 +30,7 @@ pub fn open_replies(rt: &HostRuntime) -> Result<Replies, DeviceFault> {
 /// They hold nobody up, and a reader of replies that has gone is told of once.
 #[derive(Drop)]
 pub struct Screen {
-    replies: Replies,
-    messages: Messages,
-    watch: OutputWatch,
+    screen: line_queue::Screen<NightOutputs>,
     // Its files before the night.
     before: WrittenFiles,
 }
@@ -42,57 +38,39 @@ pub struct Screen {
 impl Screen {
     /// The screen of a night that begins.
     pub fn new(rt: &HostRuntime, replies: Replies, messages: Messages) -> Self {
-        let before = written_files(rt, &replies, &messages);
-        Screen {
-            replies,
-            messages,
-            watch: OutputWatch::default(),
-            before,
-        }
+        let outputs = NightOutputs { replies, messages };
+        let before = outputs.written_files(rt);
+        let screen = line_queue::Screen::new(outputs);
+        Screen { screen, before }
     }
 
     /// Shows a reply on standard output, as soon as what waits is handed on. A tick can have
     /// thousands of them.
     pub fn show(&mut self, line: &[u8]) {
-        self.replies.take(line);
+        self.screen.show(line);
     }
 
     /// Tells a line on standard error, behind the replies that were shown before it.
     pub fn tell(&mut self, line: &[u8]) {
-        self.replies.hand_on();
-        self.messages.tell(line);
+        self.screen.tell(line);
     }
 
     /// Where messages are told.
     pub fn messages(&mut self) -> &mut Messages {
-        &mut self.messages
+        &mut self.screen.outputs.messages
     }
 
     /// Hands on what waits, as far as it is taken at once.
     pub fn hand_on(&mut self) {
-        self.replies.hand_on();
-        self.tell_failure();
-        self.messages.hand_on();
+        self.screen.hand_on();
     }
 
     /// Hands on what waits, at the end of the night, and waits for the processes that write the
     /// files of standard output and standard error.
     pub fn finish(&mut self, rt: &HostRuntime) {
-        self.replies.finish();
-        self.tell_failure();
-        self.messages.finish();
+        self.screen.finish();
         let left = wait_for_writers(rt, self);
-        if left > 0 {
-            self.messages
-                .tell(outputs_owed_line(left).as_str().as_bytes());
-            self.messages.finish();
-        }
-    }
-
-    fn tell_failure(&mut self) {
-        if self.watch.look(self.replies.look()) == Some(OutputNotice::Failed) {
-            self.messages.tell(b"replies: device fault\n");
-        }
+        self.screen.tell_owed(left);
     }
 }
 
@@ -108,22 +86,61 @@ impl LineTeller for Screen {
 
 impl PipedOutput for Screen {
     fn unwritten_bytes(&self, rt: &HostRuntime) -> u64 {
+        let outputs = &self.screen.outputs;
         let given = GivenBytes {
-            output: self.replies.piped_bytes(),
-            error: self.messages.piped_bytes(),
+            output: outputs.replies.piped_bytes(),
+            error: outputs.messages.piped_bytes(),
         };
-        let now = written_files(rt, &self.replies, &self.messages);
-        owed_by_outputs(self.before, given, now)
+        owed_by_outputs(self.before, given, outputs.written_files(rt))
     }
 }
 
-fn written_files(
-    rt: &HostRuntime,
-    replies: &BoundedOutput<Stdout>,
-    messages: &Messages,
-) -> WrittenFiles {
-    WrittenFiles {
-        output: replies.written_file(rt),
-        error: messages.written_file(rt),
+// Standard output and standard error. They do not tell what was done.
+#[derive(Drop)]
+struct NightOutputs {
+    replies: BoundedOutput<Stdout>,
+    messages: Messages,
+}
+
+impl NightOutputs {
+    fn written_files(&self, rt: &HostRuntime) -> WrittenFiles {
+        WrittenFiles {
+            output: self.replies.written_file(rt),
+            error: self.messages.written_file(rt),
+        }
+    }
+}
+
+impl ScreenOutputs for NightOutputs {
+    ghost tells = { λ _. ⊥ };
+
+    ghost deeds = { λ _. [] };
+
+    fn take_reply(&mut self, line: &[u8]) {
+        self.replies.take(line);
+    }
+
+    fn hand_on_replies(&mut self) {
+        self.replies.hand_on();
+    }
+
+    fn finish_replies(&mut self) {
+        self.replies.finish();
+    }
+
+    fn look_at_replies(&mut self) -> OutputLook {
+        self.replies.look()
+    }
+
+    fn tell(&mut self, line: &[u8]) {
+        self.messages.tell(line);
+    }
+
+    fn hand_on_messages(&mut self) {
+        self.messages.hand_on();
+    }
+
+    fn finish_messages(&mut self) {
+        self.messages.finish();
     }
 }

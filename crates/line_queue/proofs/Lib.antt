@@ -1,2 +1,3 @@
 pub mod Accounting
+mod Screening
 pub mod Watching

@@ -7,3 +7,6 @@ pub mod Kept
 pub mod Watches
 pub mod Owed
 pub mod Ways
+pub mod ScreenDeeds
+pub mod Screens
+pub mod KeptDeeds

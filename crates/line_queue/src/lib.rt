@@ -4,7 +4,7 @@
 //! for which there is no room is dropped, and a [`Notice`] at its place says how many lines were.
 //! Where another process writes the output's file, [`open_way`] opens the pipe to it,
 //! [`owed_bytes`] are those that the file does not have yet, and [`wait_for_writers`] waits for
-//! them.
+//! them. A [`Screen`] hands on the replies of a night before its messages.
 //!
 //! ```
 //! let notice = Notice { mark: "! ", lines: "lines" };
@@ -19,12 +19,15 @@ mod notice;
 mod owed;
 mod pipe;
 mod queue;
+mod screen;
 mod watch;
 mod way;
 mod writers;
 
 pub use laws::notices_law;
-pub use memory::{MemoryPipe, MemoryWay, MemoryWriters, WayAnswers};
+pub use memory::{
+    MemoryDeed, MemoryOutputs, MemoryPipe, MemoryWay, MemoryWriters, ScreenLine, WayAnswers,
+};
 pub use notice::{Notice, NoticeText};
 pub use owed::{
     GivenBytes, OwedLine, WrittenFile, WrittenFiles, outputs_owed_line, owed_by_outputs,
@@ -32,6 +35,7 @@ pub use owed::{
 };
 pub use pipe::Pipe;
 pub use queue::LineQueue;
+pub use screen::{Screen, ScreenOutputs};
 pub use watch::{OutputLook, OutputNotice, OutputWatch};
 pub use way::{PipeVariable, WayStep, WaySystem, open_way};
 pub use writers::{Writers, wait_for_writers};

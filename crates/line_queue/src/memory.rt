@@ -1,3 +1,4 @@
+mod screen;
 mod way;
 mod writers;
 
@@ -10,6 +11,7 @@ ghost use Rattle.line_queue.specs.Pipes.{after_question, after_write};
 
 use crate::Pipe;
 use devices::memory::Faults;
+pub use screen::{MemoryDeed, MemoryOutputs, ScreenLine};
 use std::alloc::Global;
 use std::io::ErrorKind;
 pub use way::{MemoryWay, WayAnswers};

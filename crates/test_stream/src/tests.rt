@@ -14,6 +14,7 @@ mod receiver;
 mod record_head;
 mod replies;
 mod routes;
+mod screen;
 mod socket;
 mod source;
 mod way;
