@@ -26,7 +26,7 @@ fn word(deed: &MemoryDeed) -> &'static str {
     }
 }
 
-fn call(screen: &mut Screen<MemoryOutputs>, call: &Call) {
+fn make_call(screen: &mut Screen<MemoryOutputs>, call: &Call) {
     match *call {
         Call::Show => screen.show(b"1 go\n"),
         Call::Tell => screen.tell(b"keys ignored\n"),
@@ -45,7 +45,7 @@ fn holds(alloc: Global, has_failed: bool, row: &Row) -> bool {
     };
     let mut screen = Screen::new(MemoryOutputs::new(alloc, replies));
     for each in calls {
-        call(&mut screen, each);
+        make_call(&mut screen, each);
     }
     let deeds = screen.outputs.deeds.as_slice();
     !screen.outputs.is_lost
