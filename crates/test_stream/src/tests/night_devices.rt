@@ -34,7 +34,7 @@ fn is_in_order(devices: &MemoryDevices, order: &[NightDevice]) -> bool {
         Some(place) => place + 1,
         None => order.len(),
     };
-    let in_turn = steps.iter().zip(order);
+    let mut in_turn = steps.iter().zip(order);
     !devices.full
         && steps.len() == count
         && in_turn.all(|(step, device)| {
