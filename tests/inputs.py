@@ -1,5 +1,6 @@
 """Shows, input lines, scripts and datagrams made by chance: mostly good ones, oddly spelled."""
 
+from expected.show import TIMED
 from program import CID, packet
 
 SEPARATORS = [" ", " ", " ", "  ", "\t", ",", ";", "/", "<", "=", ">", "@", "\r", "\x1a", " ,;"]
@@ -116,10 +117,10 @@ def record(r):
     lines = [[kind, n, *page]]
     for _ in range(r.choice([0, 1, 1, 2, 3])):
         lines.append(["CHAN", *pairs(r)])
-    for name in ("UP", "DOWN", "FOLLOWON"):
-        if r.random() < (0.4 if name != "FOLLOWON" else 0.1):
+    for keyword, count in TIMED.items():
+        if r.random() < (0.4 if count > 1 else 0.1):
             times = r.choices(TIMES, k=r.choice([1, 1, 1, 2, 3]))
-            lines.insert(r.randrange(1, len(lines) + 1), [name, *times])
+            lines.insert(r.randrange(1, len(lines) + 1), [keyword.decode(), *times])
     return lines
 
 

@@ -68,7 +68,7 @@ class Messages(unittest.TestCase):
             (
                 b"UP",
                 b"MissingNumber",
-                b"CUE, GROUP, SUB and PATCH need a number; UP, DOWN and FOLLOWON of a cue a time",
+                b"CUE, GROUP, SUB and PATCH need a number; a line that times a cue needs a time",
             ),
             (b"IDENT 2:0", b"Ident", b"IDENT names version 3:0"),
         ):

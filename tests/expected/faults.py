@@ -5,7 +5,7 @@ import sys
 from pathlib import Path
 
 from .notes import on_encoding, shown
-from .show import NOBODY, PRIMARY, Cue, LineFault, Reader, read
+from .show import NOBODY, PRIMARY, TIMED, Cue, LineFault, Reader, read
 from .words import cue_number, level, lines_with_words, number, time
 
 RECORDS = (b"CUE", b"GROUP", b"SUB")
@@ -36,9 +36,7 @@ ROLES = {
     b"SUB": ([is_number(1, 100), PAGE], []),
     b"PATCH": ([PAGE], [is_number(0, 4096), is_number(1, 8192), LEVEL]),
     b"CHAN": ([], [is_number(1, 4096), LEVEL]),
-    b"UP": ([TIME, TIME], []),
-    b"DOWN": ([TIME, TIME], []),
-    b"FOLLOWON": ([TIME], []),
+    **{keyword: ([TIME] * count, []) for keyword, count in TIMED.items()},
 }
 
 

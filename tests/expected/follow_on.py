@@ -1,12 +1,9 @@
-"""FOLLOWON lines, in one place: with `HAS_FOLLOW_ONS` they have an effect, without it they have
-none.
+"""What FOLLOWON lines do.
 
 `FOLLOWON T` of a cue makes the next cue go at the moment of that cue's move and T later, where no
 other move was made first. A due move comes before a call of its own moment, several may come in a
 chain, and after `end` none is due.
 """
-
-HAS_FOLLOW_ONS = True
 
 
 def next_cue(show, cue):
@@ -17,7 +14,7 @@ def next_cue(show, cue):
 def due_moves(show, current, moved, moment):
     """The moves that are due up to a moment after the last one, as (cue, moment)."""
     moves = []
-    while HAS_FOLLOW_ONS and current is not None:
+    while current is not None:
         follow, after = show.cues[current].follow, next_cue(show, current)
         if follow is None or after is None or moved + follow > moment:
             break

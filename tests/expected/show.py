@@ -2,12 +2,13 @@
 
 from dataclasses import dataclass, field
 
-from . import follow_on
 from .words import cue_number, level, lines_of, number, time, words_of
 
 LONGEST = 1_048_576
 PRIMARY = set(b"CLEAR CONSOLE CUE ENDDATA GROUP IDENT MANUFACTURER PATCH SET SUB".split())
-SECONDARY = set(b"CHAN DOWN FOLLOWON LINK PART TEXT UP".split())
+# The lines that time a cue, and how many times each of them takes.
+TIMED = {b"UP": 2, b"DOWN": 2, b"FOLLOWON": 1}
+SECONDARY = set(b"CHAN LINK PART TEXT".split()) | set(TIMED)
 # The faults of a line, the one that is answered first where a line has several.
 FAULTS = (
     "Ident", "MissingNumber", "BadNumber", "BadLevel", "BadTime", "HalfPair", "HalfTriple",
@@ -31,9 +32,25 @@ class LineFault(Exception):
 @dataclass
 class Cue:
     levels: dict = field(default_factory=dict)
-    up: tuple | None = None
-    down: tuple | None = None
-    follow: int | None = None
+    # By their keyword, what the lines that time it give.
+    times: dict = field(default_factory=dict)
+
+    def rate(self, keyword):
+        """Time and delay of an UP or DOWN line, or None."""
+        given = self.times.get(keyword)
+        return given and (given[0], given[1] if given[1:] else 0)
+
+    @property
+    def up(self):
+        return self.rate(b"UP")
+
+    @property
+    def down(self):
+        return self.rate(b"DOWN")
+
+    @property
+    def follow(self):
+        return self.times.get(b"FOLLOWON", [None])[0]
 
     def rises(self):
         """Time and delay of what rises."""
@@ -174,11 +191,8 @@ class Reader:
         if first == b"CHAN":
             pairs = self.values(words[1:], (number, level), "HalfPair", (range(1, 4097),))
             (self.owner.levels if is_cue else self.owner).update(pairs)
-        elif first in (b"UP", b"DOWN") and is_cue:
-            rate = self.times(words[1:3])
-            setattr(self.owner, first.decode().lower(), (rate[0], rate[1] if rate[1:] else 0))
-        elif first == b"FOLLOWON" and is_cue and follow_on.HAS_FOLLOW_ONS:
-            self.owner.follow = self.times(words[1:2])[0]
+        elif first in TIMED and is_cue:
+            self.owner.times[first] = self.times(words[1 : 1 + TIMED[first]])
         elif first == b"TEXT":
             said = self.line.partition(b"!")[0].strip(EDGES)
             self.label(self.show.texts, said[len(first) :])

@@ -40,7 +40,7 @@ abbrev pub rule_of : ShowFault → List ℕ
 rule_of fault.TooLong = codes "a show has at most 1048576 bytes"
 rule_of (fault.Ident _) = codes "IDENT names version 3:0"
 rule_of (fault.MissingNumber _) =
-    codes "CUE, GROUP, SUB and PATCH need a number; UP, DOWN and FOLLOWON of a cue a time"
+    codes "CUE, GROUP, SUB and PATCH need a number; a line that times a cue needs a time"
 rule_of (fault.BadNumber _) =
     codes "a number is 1 to 9 digits; a cue's is 0.001 to 9999.999, as 2.5"
 rule_of (fault.BadLevel _) =

@@ -72,7 +72,7 @@ fn rule_of(fault: ShowFault) -> &'static str
         ShowFault::TooLong => "a show has at most 1048576 bytes",
         ShowFault::Ident(_) => "IDENT names version 3:0",
         ShowFault::MissingNumber(_) => {
-            "CUE, GROUP, SUB and PATCH need a number; UP, DOWN and FOLLOWON of a cue a time"
+            "CUE, GROUP, SUB and PATCH need a number; a line that times a cue needs a time"
         }
         ShowFault::BadNumber(_) => {
             "a number is 1 to 9 digits; a cue's is 0.001 to 9999.999, as 2.5"
