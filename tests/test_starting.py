@@ -313,3 +313,11 @@ class Shipped(unittest.TestCase):
         released = changelog.replace("\n## Unreleased\n", "\n", 1).partition("\n## ")[2]
         self.assertRegex(released, rf"^{version} \(\d{{4}}-\d\d-\d\d\)\n")
         self.assertIn(f"version: {version}\n", (top / "dist/PROVENANCE").read_text())
+
+    def test_toolchain_is_that_of_the_program(self):
+        """README and CONTRIBUTING name the toolchain that the shipped program was built by."""
+        top = Path(__file__).resolve().parent.parent
+        lines = (top / "dist/PROVENANCE").read_text().splitlines()
+        toolchain = dict(line.split(": ", 1) for line in lines)["toolchain"]
+        for page in ("README.md", "CONTRIBUTING.md"):
+            self.assertIn(f"`{toolchain}`", (top / page).read_text(), page)
