@@ -52,30 +52,26 @@ def _only(arguments: tuple[Argument, ...]) -> Argument:
     return arguments[0]
 
 
-def _cue(argument: Argument) -> str:
-    """A cue number: a string spells it; a float has it as near as a float can."""
+def _decimal(argument: Argument, places: int, what: str) -> str:
+    """A number: a string spells it; a float has it to so many places, as near as it can."""
     if isinstance(argument, bool):
-        raise Refused("not a cue number")
+        raise Refused(f"not a {what}")
     if isinstance(argument, str):
-        return cue_word(thousandths_of(argument))
-    number = _number(argument)
+        return argument
+    number, unit = _number(argument), 10**places
     if number > GREATEST:
-        raise Refused(f"not a cue number: {number:g}")
-    thousandths = math.floor(number * 1000 + 0.5)
-    return cue_word(thousandths_of(f"{thousandths // 1000}.{thousandths % 1000:03}"))
+        raise Refused(f"not a {what}: {number:g}")
+    parts = math.floor(number * unit + 0.5)
+    return f"{parts // unit}.{parts % unit:0{places}}"
+
+
+def _cue(argument: Argument) -> str:
+    return cue_word(thousandths_of(_decimal(argument, 3, "cue number")))
 
 
 def _time(argument: Argument) -> str:
-    """A time: a string spells it; a float has seconds, to the nearest hundredth."""
-    if isinstance(argument, bool):
-        raise Refused("not a time")
-    if isinstance(argument, str):
-        return time_word(milliseconds_of(argument))
-    number = _number(argument)
-    if number > GREATEST:
-        raise Refused(f"not a time: {number:g}")
-    hundredths = math.floor(number * 100 + 0.5)
-    return time_word(milliseconds_of(f"{hundredths // 100}.{hundredths % 100:02}"))
+    """A time is in seconds."""
+    return time_word(milliseconds_of(_decimal(argument, 2, "time")))
 
 
 def _usual_line(message: Message) -> str | None:
