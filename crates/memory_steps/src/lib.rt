@@ -11,7 +11,7 @@
 #![tactic(auto)]
 
 ghost use Rattle.std.specs.Prelude.{◌≡◌, [], false};
-ghost use Rattle.memory_steps.specs.Keeping.{Keeps};
+ghost use Rattle.memory_steps.specs.Keeping.{OnlyKeeps};
 
 use std::alloc::Global;
 
@@ -42,7 +42,7 @@ impl<Answers, Step: Drop> MemorySteps<Answers, Step> {
 
     /// Keeps a step behind those before it, or is full from then on.
     pub fn keep(&mut self, step: Step)
-        ensures { Keeps self.old self.new step }
+        ensures { OnlyKeeps self.old self.new step }
     {
         if self.steps.push(step).is_err() {
             self.full = true;

@@ -1,5 +1,5 @@
 ghost use Rattle.std.specs.Prelude.{◌≡◌, false};
-ghost use Rattle.memory_steps.specs.Keeping.{Keeps};
+ghost use Rattle.memory_steps.specs.Keeping.{OnlyKeeps};
 ghost use Rattle.line_queue.specs.declared.way.WayStep.TheVariants as step;
 
 use crate::way::{PipeVariable, WayStep, WaySystem};
@@ -25,7 +25,7 @@ impl WaySystem for MemoryWay {
 
     fn read_variable(&mut self) -> PipeVariable
         ensures answer { result ≡ self.old.answers.variable }
-        ensures keeps { Keeps self.old self.new (step.Variable result) }
+        ensures keeps { OnlyKeeps self.old self.new (step.Variable result) }
     {
         let answer = self.answers.variable;
         self.keep(WayStep::Variable(answer));
@@ -34,7 +34,7 @@ impl WaySystem for MemoryWay {
 
     fn is_regular_file(&mut self) -> Result<bool, ErrorKind>
         ensures answer { result ≡ self.old.answers.is_regular }
-        ensures keeps { Keeps self.old self.new (step.Output result) }
+        ensures keeps { OnlyKeeps self.old self.new (step.Output result) }
     {
         let answer = self.answers.is_regular;
         self.keep(WayStep::Output(answer));
@@ -43,7 +43,7 @@ impl WaySystem for MemoryWay {
 
     fn open_both_ways(&mut self) -> Result<(), ErrorKind>
         ensures answer { result ≡ self.old.answers.both_ways }
-        ensures keeps { Keeps self.old self.new (step.BothWays result) }
+        ensures keeps { OnlyKeeps self.old self.new (step.BothWays result) }
     {
         let answer = self.answers.both_ways;
         self.keep(WayStep::BothWays(answer));
@@ -52,7 +52,7 @@ impl WaySystem for MemoryWay {
 
     fn open_to_write(&mut self) -> Result<(), ErrorKind>
         ensures answer { result ≡ self.old.answers.to_write }
-        ensures keeps { Keeps self.old self.new (step.Writing result) }
+        ensures keeps { OnlyKeeps self.old self.new (step.Writing result) }
     {
         let answer = self.answers.to_write;
         self.keep(WayStep::Writing(answer));
