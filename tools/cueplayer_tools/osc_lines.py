@@ -52,30 +52,27 @@ def _only(arguments: tuple[Argument, ...]) -> Argument:
     return arguments[0]
 
 
-def _cue(argument: Argument) -> str:
-    """A cue number: a string spells it; a float has it as near as a float can."""
+def _spelled(argument: Argument, what: str, places: int) -> str:
+    """A number as text: a string spells it; a float has it to so many decimal places."""
     if isinstance(argument, bool):
-        raise Refused("not a cue number")
+        raise Refused(f"not {what}")
     if isinstance(argument, str):
-        return cue_word(thousandths_of(argument))
+        return argument
     number = _number(argument)
     if number > GREATEST:
-        raise Refused(f"not a cue number: {number:g}")
-    thousandths = math.floor(number * 1000 + 0.5)
-    return cue_word(thousandths_of(f"{thousandths // 1000}.{thousandths % 1000:03}"))
+        raise Refused(f"not {what}: {number:g}")
+    whole, part = divmod(math.floor(number * 10**places + 0.5), 10**places)
+    return f"{whole}.{part:0{places}}"
+
+
+def _cue(argument: Argument) -> str:
+    """A cue number: a float has it as near as a float can."""
+    return cue_word(thousandths_of(_spelled(argument, "a cue number", 3)))
 
 
 def _time(argument: Argument) -> str:
-    """A time: a string spells it; a float has seconds, to the nearest hundredth."""
-    if isinstance(argument, bool):
-        raise Refused("not a time")
-    if isinstance(argument, str):
-        return time_word(milliseconds_of(argument))
-    number = _number(argument)
-    if number > GREATEST:
-        raise Refused(f"not a time: {number:g}")
-    hundredths = math.floor(number * 100 + 0.5)
-    return time_word(milliseconds_of(f"{hundredths // 100}.{hundredths % 100:02}"))
+    """A time: a float has seconds, to the nearest hundredth."""
+    return time_word(milliseconds_of(_spelled(argument, "a time", 2)))
 
 
 def _usual_line(message: Message) -> str | None:
