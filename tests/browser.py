@@ -8,7 +8,9 @@ import subprocess
 import tempfile
 from contextlib import suppress
 
-from tooling import PATIENCE, wait_for
+from tooling import wait_for
+
+from cueplayer_tools.conform.started import end
 
 NAMES = ("chromium", "chromium-browser", "google-chrome", "google-chrome-stable")
 CHROMIUM = os.environ.get("CHROMIUM") or next(filter(None, map(shutil.which, NAMES)), None)
@@ -53,12 +55,7 @@ class Browser:
 
     def leave(self):
         self.output.close()
-        self.process.terminate()
-        try:
-            self.process.wait(PATIENCE)
-        except subprocess.TimeoutExpired:
-            self.process.kill()
-            self.process.wait()
+        end(self.process)
         self.input.close()
 
     def _message(self):

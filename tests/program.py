@@ -13,6 +13,8 @@ SHIPPED = TOP / "dist/cueplayer"
 PROGRAM = Path(os.environ.get("CUEPLAYER") or SHIPPED).resolve()
 
 CID = "c0ffee00-0000-4000-8000-00000000e131"
+# To where nobody listens.
+TO_NOBODY = ("--to", "127.0.0.1:9", "--cid", CID)
 
 # The locks of consoles are in a folder of this run alone.
 RUNTIME = tempfile.TemporaryDirectory(prefix="cueplayer-")

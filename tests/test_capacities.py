@@ -6,7 +6,7 @@ import time
 from typing import NamedTuple
 
 from preload import COMPILER, PreloadTest
-from program import CID, PROGRAM, text
+from program import PROGRAM, TO_NOBODY, text
 from test_crate_growths import built_programs, program_of
 from test_refused_growths import COMMANDS, MOVING_SHOW, every_line
 
@@ -79,7 +79,7 @@ class Capacities(PreloadTest):
     def test_play(self):
         """From the first read of its lines to the last answer."""
         lines = every_line()
-        words = [PROGRAM, "play", self.show, "--to", "127.0.0.1:9", "--cid", CID]
+        words = [PROGRAM, "play", self.show, *TO_NOBODY]
         with open(self.file("lines", text(*lines)), "rb") as stdin:
             status, out = self.run_to_its_end(*words, stdin=stdin)
         self.assertEqual((4, len(lines) - 1), (status, out.count(b"\n")))
@@ -94,16 +94,7 @@ class Capacities(PreloadTest):
     def test_live(self):
         """From the first answer to the last: commands, questions, refused lines, keys, and the
         end."""
-        words = [
-            "live",
-            self.show,
-            "--to",
-            "127.0.0.1:9",
-            "--cid",
-            CID,
-            "--record",
-            self.folder / "night.play",
-        ]
+        words = ["live", self.show, *TO_NOBODY, "--record", self.folder / "night.play"]
         streams = dict.fromkeys(("stdin", "stdout", "stderr"), subprocess.PIPE)
         night = subprocess.Popen([PROGRAM, *words], bufsize=0, env=self.environment(), **streams)
         self.addCleanup(night.kill)

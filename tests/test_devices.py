@@ -13,6 +13,7 @@ from program import (
     CID,
     DEVICE_FAULT,
     PROGRAM,
+    TO_NOBODY,
     FolderTest,
     ProgramTest,
     counts,
@@ -112,7 +113,7 @@ class Floods(FolderTest):
     def flooded(self, line, job, *words, **options):
         """A run whose input is this line for ever."""
         flood = subprocess.Popen(["yes", line], stdout=subprocess.PIPE)
-        words = [PROGRAM, job, self.show, "--to", "127.0.0.1:9", "--cid", CID, *words]
+        words = [PROGRAM, job, self.show, *TO_NOBODY, *words]
         run = subprocess.Popen(words, stdin=flood.stdout, **options)
         flood.stdout.close()
         for child in (flood, run):
@@ -150,18 +151,7 @@ class Floods(FolderTest):
         """A night that the system holds for a second goes on: what it missed is not made up
         for."""
         record = self.folder / "night.play"
-        words = [
-            PROGRAM,
-            "live",
-            self.show,
-            "--to",
-            "127.0.0.1:9",
-            "--cid",
-            CID,
-            "--record",
-            record,
-        ]
-        words.append("--end-with-input")
+        words = [PROGRAM, "live", self.show, *TO_NOBODY, "--record", record, "--end-with-input"]
         pipes = {"stdin": subprocess.PIPE, "stdout": subprocess.PIPE, "stderr": subprocess.DEVNULL}
         night = subprocess.Popen(words, **pipes)
         self.addCleanup(night.wait)
@@ -191,7 +181,6 @@ class Outputs(ProgramTest):
         show, script = Path(folder.name, "show.asc"), Path(folder.name, "night.script")
         show.write_bytes(SHOW)
         script.write_bytes(text(f"console 1 100 {CID}", "receiver 1", "0 tick 0", "0 slots 0"))
-        to = ("--to", "127.0.0.1:9", "--cid", CID)
         return (
             (("check", "-"), SHOW),
             (LOOK, SHOW),
@@ -201,7 +190,7 @@ class Outputs(ProgramTest):
             (("cues", "-", "--json"), SHOW),
             (("rehearse", show, script), b""),
             (("watch", "1"), b"0 00\n1000\n"),
-            (("play", show, *to), b"0 tick\n"),
+            (("play", show, *TO_NOBODY), b"0 tick\n"),
         )
 
     def assertOutputFails(self, **options):

@@ -7,7 +7,7 @@ import tempfile
 import unittest
 from pathlib import Path
 
-from program import CID, PROGRAM, text
+from program import CID, PROGRAM, TO_NOBODY, text
 
 LEVEL = b"a level is a percent from 0 to 100, FL or FF, or H and one or two hex digits"
 TIME = b"a time is seconds to 5999.99, as 2.5, or minutes and seconds to 99:59.99"
@@ -155,7 +155,7 @@ class Messages(unittest.TestCase):
         with tempfile.TemporaryDirectory() as name:
             show, script = Path(name) / "show", Path(name) / "script"
             show.write_bytes(SHOW)
-            words = ("play", show, "--to", "127.0.0.1:9", "--cid", CID)
+            words = ("play", show, *TO_NOBODY)
             self.assertEqual(
                 (4, [b"line 2 refused", INPUT_LINE]), run(*words, stdin=b"0 tick\n1 jump\n")
             )
@@ -183,7 +183,7 @@ class Messages(unittest.TestCase):
             show = Path(name) / "show"
             show.write_bytes(SHOW)
             kept.write_bytes(b"0 tick\n")
-            words = ("live", show, "--to", "127.0.0.1:9", "--cid", CID, "--record", kept)
+            words = ("live", show, *TO_NOBODY, "--record", kept)
             told = [b"device fault", b"the record's file is not empty: --resume goes on with it"]
             self.assertEqual((5, told), run(*words))
 

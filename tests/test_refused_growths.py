@@ -9,7 +9,7 @@ import subprocess
 import time
 
 from preload import PreloadTest
-from program import CID, PROGRAM, Outcome, packet, run, text, told
+from program import CID, PROGRAM, TO_NOBODY, Outcome, packet, run, text, told
 from test_listen import Listener
 
 MEMORY = Outcome(6, b"", b"memory\n")
@@ -86,19 +86,17 @@ class RefusedGrowths(Growths):
             self.assertEachRefused(words, show)
 
     def test_play(self):
-        words = ["play", self.show, "--to", "127.0.0.1:9", "--cid", CID]
+        words = ["play", self.show, *TO_NOBODY]
         self.assertEachRefused(words, b"0 go\n0 tick\n25 sub 1 50\n25 tick\n50 end\n50 tick\n")
 
     def test_live(self):
         """A night that is over after three ticks."""
-        self.assertEachRefused(
-            ["live", self.show, "--to", "127.0.0.1:9", "--cid", CID], b"go\nend\n"
-        )
+        self.assertEachRefused(["live", self.show, *TO_NOBODY], b"go\nend\n")
 
     def test_record_in_use(self):
         """Without memory to find who keeps the record, its process is not told."""
         record = self.file("night.play", b"")
-        words = ["live", self.show, "--to", "127.0.0.1:9", "--cid", CID, "--record", record]
+        words = ["live", self.show, *TO_NOBODY, "--record", record]
         with open(record, "rb") as kept:
             fcntl.flock(kept, fcntl.LOCK_EX)
             whole = self.run_without(0, words, b"")
@@ -202,7 +200,7 @@ class NoGrowths(Growths):
     def test_play(self):
         """It asks for as much as a play that ends before its first line: so at its first tick for
         none."""
-        words = ["play", self.show, "--to", "127.0.0.1:9", "--cid", CID]
+        words = ["play", self.show, *TO_NOBODY]
         run(*words, stdin=b"", env=self.environment(0))
         opened, _ = self.growths()
         lines = every_line()
@@ -214,7 +212,7 @@ class NoGrowths(Growths):
     def test_live(self):
         """Commands, refused lines, a record, and the end."""
         record = self.folder / "night.play"
-        words = ["live", self.show, "--to", "127.0.0.1:9", "--cid", CID, "--record", record]
+        words = ["live", self.show, *TO_NOBODY, "--record", record]
         words.append("--end-with-input")
         night = subprocess.Popen(
             [PROGRAM, *words],

@@ -310,8 +310,11 @@ class Reader:
             self.report.respell(word, anew)
         return found.value
 
-    def _times(self, line: Line, most: int) -> list[int]:
-        """The times of a line of a cue: up to the first word that is none."""
+    def _times(self, line: Line, most: int, comma: str) -> list[int]:
+        """The times of a line of a cue: up to the first word that is none. Of a comma between
+        digits this is said."""
+        if _has_comma(line.said):
+            self.report.add(DOUBT, line.numbers, f"{said(line.said)}{comma}")
         words = line.words[1 : most + 1]
         if not words:
             self.report.add(LOST, line.numbers, f"{line.first} without a time")
@@ -330,10 +333,7 @@ class Reader:
         if not isinstance(owner, Cue):
             self.report.add(LEFT_OUT, line.numbers, "fade times of submasters and groups")
             return
-        if _has_comma(line.said):
-            text = f"{said(line.said)} is a time and a delay: is the comma a point?"
-            self.report.add(DOUBT, line.numbers, text)
-        times = self._times(line, 2)
+        times = self._times(line, 2, " is a time and a delay: is the comma a point?")
         if times:
             part = owner.parts[-1]
             setattr(part, line.first.lower(), Rate(*times))
@@ -343,10 +343,7 @@ class Reader:
         if not isinstance(owner, Cue):
             self.report.add(LEFT_OUT, line.numbers, "FOLLOWON of submasters and groups")
             return
-        if _has_comma(line.said):
-            text = f"{said(line.said)}: only what stands before the comma counts"
-            self.report.add(DOUBT, line.numbers, text)
-        times = self._times(line, 1)
+        times = self._times(line, 1, ": only what stands before the comma counts")
         owner.follow = times[0] if times else owner.follow
 
     def _link(self, line: Line, owner: Record) -> None:

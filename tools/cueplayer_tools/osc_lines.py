@@ -52,26 +52,27 @@ def _only(arguments: tuple[Argument, ...]) -> Argument:
     return arguments[0]
 
 
-def _decimal(argument: Argument, places: int, what: str) -> str:
-    """A number: a string spells it; a float has it to so many places, as near as it can."""
+def _spelled(argument: Argument, what: str, places: int) -> str:
+    """A number as text: a string spells it; a float has it to so many decimal places."""
     if isinstance(argument, bool):
-        raise Refused(f"not a {what}")
+        raise Refused(f"not {what}")
     if isinstance(argument, str):
         return argument
-    number, unit = _number(argument), 10**places
+    number = _number(argument)
     if number > GREATEST:
-        raise Refused(f"not a {what}: {number:g}")
-    parts = math.floor(number * unit + 0.5)
-    return f"{parts // unit}.{parts % unit:0{places}}"
+        raise Refused(f"not {what}: {number:g}")
+    whole, part = divmod(math.floor(number * 10**places + 0.5), 10**places)
+    return f"{whole}.{part:0{places}}"
 
 
 def _cue(argument: Argument) -> str:
-    return cue_word(thousandths_of(_decimal(argument, 3, "cue number")))
+    """A cue number: a float has it as near as a float can."""
+    return cue_word(thousandths_of(_spelled(argument, "a cue number", 3)))
 
 
 def _time(argument: Argument) -> str:
-    """A time is in seconds."""
-    return time_word(milliseconds_of(_decimal(argument, 2, "time")))
+    """A time: a float has seconds, to the nearest hundredth."""
+    return time_word(milliseconds_of(_spelled(argument, "a time", 2)))
 
 
 def _usual_line(message: Message) -> str | None:

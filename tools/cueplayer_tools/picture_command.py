@@ -24,7 +24,7 @@ from cueplayer_tools.storm_command import (
 )
 from cueplayer_tools.storm_report import network_words
 from cueplayer_tools.storm_sweep import blown
-from cueplayer_tools.words import Refused
+from cueplayer_tools.words import Refused, text_of
 
 QUESTIONS = 480
 
@@ -43,17 +43,10 @@ def whole_number(word: str) -> int:
     raise argparse.ArgumentTypeError(f"not a number: {word!r}")
 
 
-def _text(file: str) -> str:
-    try:
-        return Path(file).read_bytes().decode("latin-1")
-    except OSError as fault:
-        raise Refused(f"{file}: {fault.strerror}") from fault
-
-
 def night_picture(words: argparse.Namespace) -> str:
     """The picture of a record."""
     show = read_show(words.show)
-    given = read_record(_text(words.record))
+    given = read_record(text_of(words.record))
     if not given:
         raise Refused("the record has no lines")
     if words.every is not None:
@@ -67,16 +60,16 @@ def night_picture(words: argparse.Namespace) -> str:
         named, left_away = chosen(night, show, words.base, words.slot, words.channel), 0
     else:
         named, left_away = all_of(night, show, words.base)
-    lost = None if words.replies is None else lost_in(_text(words.replies))
+    lost = None if words.replies is None else lost_in(text_of(words.replies))
     title = words.title or Path(words.record).name
     return draw_night(NightPicture(title, show, night, named, left_away, lost))
 
 
 def rehearsal_picture(words: argparse.Namespace) -> str:
     """The picture of a script's rehearsal, or of what was printed of it."""
-    script = _text(words.script)
+    script = text_of(words.script)
     if words.replies is not None:
-        rehearsal = with_replies(script, _text(words.replies))
+        rehearsal = with_replies(script, text_of(words.replies))
     else:
         lines = (words_of(line) for line in script.split("\n"))
         moments = [int(line[0]) for line in lines if line and line[0].isdecimal()]

@@ -32,7 +32,7 @@ from cueplayer_tools.storm_sweep import (
     sweep_table,
     swept,
 )
-from cueplayer_tools.words import Refused
+from cueplayer_tools.words import Refused, text_of
 
 BROKEN = 1
 REFUSED = 2
@@ -182,16 +182,9 @@ def consoles_of(words: argparse.Namespace) -> list[Console]:
     return words.console or [Console(100)]
 
 
-def _text(file: str) -> str:
-    try:
-        return Path(file).read_bytes().decode("latin-1")
-    except OSError as fault:
-        raise Refused(f"{file}: {fault.strerror}") from fault
-
-
 def planned(words: argparse.Namespace) -> Plan:
     """What a console does that takes the lines of the night."""
-    show, text = read_show(words.show), _text(words.night)
+    show, text = read_show(words.show), text_of(words.night)
     given = part_of(read_record(text), None, words.until)
     if not given:
         raise Refused("the night has no lines")

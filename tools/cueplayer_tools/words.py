@@ -2,6 +2,7 @@
 
 import math
 import re
+from pathlib import Path
 
 HIGHEST_NUMBER = 65_535
 MOST_MINUTES = 99
@@ -19,6 +20,14 @@ _MINUTES = re.compile(
 
 class Refused(ValueError):
     """What was asked for has no meaning here; its text says why."""
+
+
+def text_of(file: str) -> str:
+    """The text of a file, a character for each byte."""
+    try:
+        return Path(file).read_bytes().decode("latin-1")
+    except OSError as fault:
+        raise Refused(f"{file}: {fault.strerror}") from fault
 
 
 def printable(text: str | bytes, longest: int = LONGEST_NAMED) -> str:

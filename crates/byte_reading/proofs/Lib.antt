@@ -1,2 +1,3 @@
 pub mod ShortText
 pub mod ReadLines
+pub mod SoFar

@@ -6,8 +6,8 @@ use Rattle.cmd_cues.proofs.Terms.{fold-append, reverse_aux, is_word, lines_of, n
 use Rattle.cmd_cues.proofs.Terms.{words_of, Reading, Record, Statement, Opens, Quiet, may_own}
 use Rattle.cmd_cues.proofs.Terms.{desk_limits, record_opened, line_reading, Is, Silent, after}
 use Rattle.cmd_cues.proofs.Terms.{same_record, Words, owner_after, owner_below, said_under}
-use Rattle.cmd_cues.proofs.Terms.{begins_with_word, keyword_in, words_in, all_that_are_read}
-use Rattle.cmd_cues.proofs.Terms.{all_that_are_there, none_left, reading_is, LabelKind, Text}
+use Rattle.cmd_cues.proofs.Terms.{begins_with_word, keyword_in, words_in, reading_is}
+use Rattle.cmd_cues.proofs.Terms.{LabelKind, Text}
 use Rattle.cmd_cues.proofs.Terms.{Comment, LabelLine, label_after, label_news_of, label_part}
 use Rattle.cmd_cues.proofs.Terms.{last_label, names, AreOf, label_by, label_if, last_label_by}
 use Rattle.cmd_cues.proofs.Terms.{line_news, news_in}
@@ -87,33 +87,6 @@ next_owner owner (w ∷ l) reading e =
     let read = reading_is owner (w ∷ l) reading e in
     ap (λ k. cond (may_own k) (record_opened reading.statement) owner) read.keyword
     ∙ ap (λ s. cond (may_own (keyword_in (w ∷ l))) (record_opened s) owner) read.statement
-
--- ---- all lines
-
--- the text's lines are these and those that are left, with their numbers; the labels are those that
--- these give
-pub record StandsBehind (text : List ℕ) (count : ℕ) (lines left : List (List ℕ))
-    (ahead : List (ℕ × List ℕ)) (owner : Option Record) (said : List LabelLine) : Type 0 where
-  pub numbered : ahead ≡ numbered_from (length lines + 1) left
-  pub all : lines_of text ≡ reverse_aux lines left
-  pub within : length lines ≤ count
-  pub owned : owner ≡ owner_below desk_limits (words_in lines)
-  pub labels : AreOf lines said
-
-module _ {text : List ℕ} {count : ℕ} {lines left : List (List ℕ)} {ahead : List (ℕ × List ℕ)}
-    {owner : Option Record} {said : List LabelLine}
-    (h : StandsBehind text count lines left ahead owner said) where
-  -- so many lines are read
-  pub all_read : length lines ≡ count → AreOf (reverse (take count (lines_of text))) said
-  all_read is =
-      subst (λ ls. AreOf ls said) (all_that_are_read text count lines left h.all is) h.labels
-
-  -- the text has no line more
-  pub no_more : ahead ≡ [] → AreOf (reverse (take count (lines_of text))) said
-  no_more none =
-      let empty : left ≡ [] = none_left (length lines + 1) left (sym h.numbered ∙ none) in
-      subst (λ ls. AreOf ls said)
-      (all_that_are_there text count lines (h.all ∙ ap (reverse_aux lines) empty) h.within) h.labels
 
 -- ---- every record
 

@@ -1,7 +1,7 @@
 -- What is made of the lines of a text, one after the other.
 use Rattle.cmd_explain.proofs.Terms.{◌≡◌, ℕ, ◌+◌, ◌≤◌, Bool, true, false, cond, List, [], ◌∷◌}
-use Rattle.cmd_explain.proofs.Terms.{length, reverse, take, refl, sym, ap, ◌∙◌, arith, Option, Some}
-use Rattle.cmd_explain.proofs.Terms.{None, reverse_onto, length-reverse, reverse-reverse, take_all}
+use Rattle.cmd_explain.proofs.Terms.{length, reverse, take, refl, sym, ap, subst, ◌∙◌, arith, Option}
+use Rattle.cmd_explain.proofs.Terms.{Some, None, ◌<◌, reverse_onto, length-reverse, reverse-reverse, take_all}
 use Rattle.cmd_explain.proofs.Terms.{take-append_seam, reverse_aux, lines_of, numbered_from}
 use Rattle.cmd_explain.proofs.Terms.{words_of, Keyword, Reading, Record, keyword_of, desk_limits}
 use Rattle.cmd_explain.proofs.Terms.{record_opened, line_reading, statement_in, is_skipped, Words}
@@ -97,16 +97,6 @@ module _ (lines : List (List ℕ)) (bytes : List ℕ) (above : Heading)
 
 -- ---- all lines
 
--- the text's lines are these and those that are left, with their numbers; what is printed is that
--- of these
-pub record StandsBehind (text : List ℕ) (count : ℕ) (lines left : List (List ℕ))
-    (ahead : List (ℕ × List ℕ)) (above : Heading) (out : List ℕ) : Type 0 where
-  pub numbered : ahead ≡ numbered_from (length lines + 1) left
-  pub all : lines_of text ≡ reverse_aux lines left
-  pub within : length lines ≤ count
-  pub heads : above ≡ heading_below (words_in lines)
-  pub wrote : out ≡ skipped_lines lines
-
 -- numbered lines are a line and those behind it
 pub next_numbered : (n : ℕ) (left : List (List ℕ)) (number : ℕ) (bytes : List ℕ)
     (behind : List (ℕ × List ℕ)) → (number, bytes) ∷ behind ≡ numbered_from n left
@@ -152,16 +142,62 @@ all_that_are_there text count lines whole within =
     sym (ap (λ ls. reverse (take count ls)) whole
     ∙ ap reverse (take_all count (reverse lines) short) ∙ reverse-reverse lines)
 
-module _ {text : List ℕ} {count : ℕ} {lines left : List (List ℕ)} {ahead : List (ℕ × List ℕ)}
-    {above : Heading} {out : List ℕ} (h : StandsBehind text count lines left ahead above out) where
-  -- so many lines are read
-  pub all_read : length lines ≡ count → out ≡ skipped_lines (reverse (take count (lines_of text)))
-  all_read is = h.wrote ∙ ap skipped_lines (all_that_are_read text count lines left h.all is)
+-- of so many lines of a text the first are read, and this holds of them, the newest first; the
+-- others are ahead, with their numbers
+pub record FirstRead (text : List ℕ) (count : ℕ) (ahead : List (ℕ × List ℕ))
+    (Holds : List (List ℕ) → Type 0) : Type 0 where
+  pub lines : List (List ℕ)
+  pub left : List (List ℕ)
+  pub numbered : ahead ≡ numbered_from (length lines + 1) left
+  pub all : lines_of text ≡ reverse_aux lines left
+  pub within : length lines ≤ count
+  pub holds : Holds lines
 
-  -- the text has no line more
-  pub no_more : ahead ≡ [] → out ≡ skipped_lines (reverse (take count (lines_of text)))
-  no_more none =
-      let empty : left ≡ [] = none_left (length lines + 1) left (sym h.numbered ∙ none) in
-      h.wrote
-      ∙ ap skipped_lines (all_that_are_there text count lines
-      (h.all ∙ ap (reverse_aux lines) empty) h.within)
+pub no_line : {text : List ℕ} {count : ℕ} {ahead : List (ℕ × List ℕ)}
+    {Holds : List (List ℕ) → Type 0} → ahead ≡ numbered_from 1 (lines_of text) → Holds []
+    → FirstRead text count ahead Holds
+no_line {text} is holds = record {
+  lines = [];
+  left = lines_of text;
+  numbered = is;
+  all = refl;
+  within = omega arith;
+  holds = holds;
+}
+
+module _ {text : List ℕ} {count : ℕ} {ahead behind : List (ℕ × List ℕ)} {number : ℕ}
+    {bytes : List ℕ} {Held : List (List ℕ) → Type 0} (read : FirstRead text count ahead Held)
+    (steps : ahead ≡ (number, bytes) ∷ behind) where
+  -- one line more
+  pub one_line : {Holds : List (List ℕ) → Type 0} → number ≤ count
+      → ((lines : List (List ℕ)) → Held lines → number ≡ length lines + 1 → Holds (bytes ∷ lines))
+      → FirstRead text count behind Holds
+  one_line within more =
+      let next = next_numbered (length read.lines + 1) read.left number bytes behind
+      (sym steps ∙ read.numbered) in
+      let longer : length read.lines + 1 + 1 ≡ length (bytes ∷ read.lines) + 1 = omega arith in
+      record {
+        lines = bytes ∷ read.lines;
+        left = next.0;
+        numbered = next.2 ∙ ap (λ n. numbered_from n next.0) longer;
+        all = read.all ∙ ap (reverse_aux read.lines) next.1;
+        within = omega (arith, next.3, within);
+        holds = more read.lines read.holds next.3;
+      }
+
+  -- so many lines are read
+  pub all_read : count < number → Held (reverse (take count (lines_of text)))
+  all_read beyond =
+      let next = next_numbered (length read.lines + 1) read.left number bytes behind
+      (sym steps ∙ read.numbered) in
+      subst Held (all_that_are_read text count read.lines read.left read.all
+      (omega (arith, read.within, next.3, beyond))) read.holds
+
+-- the text has no line more
+pub no_more : {text : List ℕ} {count : ℕ} {ahead : List (ℕ × List ℕ)}
+    {Held : List (List ℕ) → Type 0} → FirstRead text count ahead Held → ahead ≡ []
+    → Held (reverse (take count (lines_of text)))
+no_more {text} {count} {ahead} {Held} read none =
+    let empty = none_left (length read.lines + 1) read.left (sym read.numbered ∙ none) in
+    subst Held (all_that_are_there text count read.lines
+    (read.all ∙ ap (reverse_aux read.lines) empty) read.within) read.holds

@@ -17,8 +17,7 @@ use Rattle.cmd_explain.proofs.Terms.{numbers_above, numbers_after, run_by, Numbe
 use Rattle.cmd_explain.proofs.Terms.{ArePatchNotesOf, IsPatchTaken, patch_note_on, sheet_after}
 use Rattle.cmd_explain.proofs.Terms.{sheet_below, PatchNotes, words_in}
 use Rattle.cmd_explain.specs.declared.heading.Heading.TheVariants as heading
-use Rattle.cmd_explain.proofs.Lines.{all_that_are_read, all_that_are_there, keyword_is}
-use Rattle.cmd_explain.proofs.Lines.{none_left, reading_is, statement_is}
+use Rattle.cmd_explain.proofs.Lines.{keyword_is, reading_is, statement_is}
 
 -- ---- what is read of a line
 
@@ -223,29 +222,3 @@ unknown_is owner h [] reading e = cc
 unknown_is owner h (word ∷ words) reading e =
     ap (λ k. cond (is_unknown h k) 1 0)
     (sym (reading_is owner (word ∷ words) reading e).keyword)
-
--- ---- all lines
-
--- the text's lines are these and those that are left, with their numbers; the notes are on these
-pub record NotesBehind (show : Tables) (text : List ℕ) (count : ℕ) (lines left : List (List ℕ))
-    (ahead : List (ℕ × List ℕ)) (notes : LineNotes) : Type 0 where
-  pub numbered : ahead ≡ numbered_from (length lines + 1) left
-  pub all : lines_of text ≡ reverse_aux lines left
-  pub within : length lines ≤ count
-  pub noted : AreNotesOf show lines notes
-
-module _ {show : Tables} {text : List ℕ} {count : ℕ} {lines left : List (List ℕ)}
-    {ahead : List (ℕ × List ℕ)} {notes : LineNotes}
-    (h : NotesBehind show text count lines left ahead notes) where
-  -- so many lines are read
-  pub notes_of_all : length lines ≡ count
-      → AreNotesOf show (reverse (take count (lines_of text))) notes
-  notes_of_all is = subst (λ ls. AreNotesOf show ls notes)
-      (all_that_are_read text count lines left h.all is) h.noted
-
-  -- the text has no line more
-  pub none_more : ahead ≡ [] → AreNotesOf show (reverse (take count (lines_of text))) notes
-  none_more none =
-      let empty : left ≡ [] = none_left (length lines + 1) left (sym h.numbered ∙ none) in
-      subst (λ ls. AreNotesOf show ls notes)
-      (all_that_are_there text count lines (h.all ∙ ap (reverse_aux lines) empty) h.within) h.noted

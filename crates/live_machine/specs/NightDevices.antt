@@ -15,12 +15,16 @@ behind_record = Screen ∷ CidLock ∷ Network ∷ []
 abbrev pub in_order : List NightDevice
 in_order = Record ∷ behind_record
 
+-- it was asked for, and whether it was had
+abbrev pub asked_for : NightDevice → Bool → DeviceStep
+asked_for device is_had = record { device = device; is_open = is_had }
+
 -- it was opened, or it was not had
 abbrev pub opened : NightDevice → DeviceStep
-opened device = record { device = device; is_open = true }
+opened device = asked_for device true
 
 abbrev pub missed : NightDevice → DeviceStep
-missed device = record { device = device; is_open = false }
+missed device = asked_for device false
 
 -- each was opened
 abbrev pub all_opened : List NightDevice → List DeviceStep

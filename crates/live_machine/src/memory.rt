@@ -7,7 +7,7 @@ mod input;
 mod night_devices;
 mod night_start;
 
-pub use booth::{MemoryBooth, MemoryHearing, MemoryStep};
+pub use booth::{BoothDevices, MemoryBooth, MemoryHearing, MemoryStep};
 pub use clock::MemoryClock;
 pub use input::{MemoryInput, MemoryWait};
 pub use night_devices::MemoryDevices;

@@ -49,9 +49,9 @@ fn add_network(networks: &mut ArrayVec<Route, MOST_CARDS>, line: &[u8])
 /// The addresses of this machine, by a table like `/proc/net/fib_trie`: each once, and of more than
 /// there is room for, the first.
 pub fn own_addresses<B: BlockSource>(tree: &mut ShortLines<B>) -> ArrayVec<[u8; 4], MOST_CARDS>
-    ensures { (lines : List (List ℕ)) × (said : List SaidOf)
+    ensures { (lines : List (List ℕ))
         × AreRead (bytes_left B.left tree.old) (B.may_fail (source tree.old)) lines
-        × SayEach lines said × (result.items ≡ own_addresses said) }
+        × (said : List SaidOf) × SayEach lines said × (result.items ≡ own_addresses said) }
 {
     let mut own = OwnAddresses::new();
     for _ in 0..u64::MAX {
@@ -66,9 +66,9 @@ pub fn own_addresses<B: BlockSource>(tree: &mut ShortLines<B>) -> ArrayVec<[u8; 
 /// Adds the cards of a table like `/proc/net/dev`, each without an address, where they have no row
 /// yet.
 pub fn add_others<B: BlockSource>(cards: &mut Cards, table: &mut ShortLines<B>)
-    ensures { (lines : List (List ℕ)) × (names : List (ArrayString 15))
+    ensures { (lines : List (List ℕ))
         × AreRead (bytes_left B.left table.old) (B.may_fail (source table.old)) lines
-        × AreNamed lines names
+        × (names : List (ArrayString 15)) × AreNamed lines names
         × (cards.new.rows.items ≡ with_others cards.old.rows.items names) }
 {
     for _ in 0..u64::MAX {

@@ -11,8 +11,9 @@ use byte_reading::{BlockSource, ShortLines};
 pub fn next_neighbor<B: BlockSource>(table: &mut ShortLines<B>) -> Option<Neighbor>
     ensures some { IfSome result (λ neighbor. IsNextNeighbor (bytes_left B.left table.old)
         (bytes_left B.left table.new) neighbor) }
-    ensures none { IfNone result ((lines : List (List ℕ)) × All IsNoNeighbor lines
-        × AreRead (bytes_left B.left table.old) (B.may_fail (source table.old)) lines) }
+    ensures none { IfNone result ((lines : List (List ℕ))
+        × AreRead (bytes_left B.left table.old) (B.may_fail (source table.old)) lines
+        × All IsNoNeighbor lines) }
     ensures same { B.may_fail (source table.new) → B.may_fail (source table.old) }
 {
     for _ in 0..u64::MAX {

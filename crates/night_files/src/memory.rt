@@ -2,43 +2,26 @@
 
 mod record_file;
 
-ghost use Rattle.std.specs.Prelude.{◌≡◌, ◌-◌, false, [], ◌∷◌, ◌++◌, nat_eq, if◌then◌else◌};
+ghost use Rattle.std.specs.Prelude.{◌≡◌, ◌-◌, false, nat_eq, if◌then◌else◌};
+ghost use Rattle.memory_steps.specs.Keeping.{Keeps, OnlyKeeps};
 ghost use Rattle.night_files.specs.declared.lock_request.FileLock.TheVariants.{Theirs};
 ghost use Rattle.night_files.specs.declared.lock_request.LockStep.TheVariants.{Ask, Sleep};
 
 use crate::lock_request::{FileLock, LockRequest, LockStep};
+use memory_steps::MemorySteps;
 pub use record_file::{FileAnswers, MemoryFile};
-use std::alloc::Global;
 
-/// A lock over memory. It stops telling where memory for a step is refused.
-#[derive(Debug, Drop)]
-pub struct MemoryLock {
+/// What a lock over memory answers.
+#[derive(Clone, Copy, Debug)]
+pub struct LockAnswers {
     /// Another process holds it at so many of the next times that it is asked for.
     pub held: u64,
     /// What it answers then.
     pub answer: FileLock,
-    /// The steps, the first first.
-    pub steps: Vec<LockStep>,
-    /// Memory was refused: steps are missing.
-    pub full: bool,
 }
 
-impl MemoryLock {
-    /// A lock that was not asked for yet.
-    pub fn new(alloc: Global, held: u64, answer: FileLock) -> Self
-        ensures held { result.held ≡ held }
-        ensures answer { result.answer ≡ answer }
-        ensures steps { result.steps.items ≡ [] }
-        ensures tells { result.full ≡ false }
-    {
-        MemoryLock {
-            held,
-            answer,
-            steps: Vec::new(alloc),
-            full: false,
-        }
-    }
-}
+/// A lock over memory.
+pub type MemoryLock = MemorySteps<LockAnswers, LockStep>;
 
 impl LockRequest for MemoryLock {
     ghost tells = { λ m. m.full ≡ false };
@@ -46,34 +29,25 @@ impl LockRequest for MemoryLock {
     ghost steps = { λ m. m.steps.items };
 
     fn ask(&mut self) -> FileLock
-        ensures answers { result ≡ (if nat_eq self.old.held 0 then self.old.answer else Theirs) }
-        ensures held { self.new.held ≡ self.old.held - 1 }
-        ensures same { self.new.answer ≡ self.old.answer }
-        ensures told { self.new.full ≡ false → self.old.full ≡ false }
-        ensures step { self.new.full ≡ false
-            → self.new.steps.items ≡ self.old.steps.items ++ Ask result ∷ [] }
+        ensures answers { result ≡ (if nat_eq self.old.answers.held 0 then self.old.answers.answer
+            else Theirs) }
+        ensures held { self.new.answers
+            ≡ record self.old.answers { held = self.old.answers.held - 1 } }
+        ensures keeps { Keeps self.old self.new (Ask result) }
     {
-        let answer = if self.held == 0 {
-            self.answer
+        let answer = if self.answers.held == 0 {
+            self.answers.answer
         } else {
             FileLock::Theirs
         };
-        self.held = self.held.saturating_sub(1);
-        if self.steps.push(LockStep::Ask(answer)).is_err() {
-            self.full = true;
-        }
+        self.answers.held = self.answers.held.saturating_sub(1);
+        self.keep(LockStep::Ask(answer));
         answer
     }
 
     fn sleep(&mut self, milliseconds: u64)
-        ensures held { self.new.held ≡ self.old.held }
-        ensures same { self.new.answer ≡ self.old.answer }
-        ensures told { self.new.full ≡ false → self.old.full ≡ false }
-        ensures step { self.new.full ≡ false
-            → self.new.steps.items ≡ self.old.steps.items ++ Sleep milliseconds ∷ [] }
+        ensures { OnlyKeeps self.old self.new (Sleep milliseconds) }
     {
-        if self.steps.push(LockStep::Sleep(milliseconds)).is_err() {
-            self.full = true;
-        }
+        self.keep(LockStep::Sleep(milliseconds));
     }
 }

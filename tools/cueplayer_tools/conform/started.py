@@ -29,6 +29,16 @@ def version_of(*words: str) -> str:
     return "unknown"
 
 
+def end(process: subprocess.Popen[bytes]) -> None:
+    """Asks a process to end, and kills it where it does not."""
+    process.terminate()
+    try:
+        process.wait(PATIENCE)
+    except subprocess.TimeoutExpired:
+        process.kill()
+        process.wait()
+
+
 def wait_for(found: Callable[[], object], what: str, patience: float = 2 * PATIENCE) -> object:
     """Waits until something is there, and answers it."""
     until = time.monotonic() + patience
@@ -71,10 +81,5 @@ class Program:
 
     def close(self) -> None:
         if self.process is not None and self.process.poll() is None:
-            self.process.terminate()
-            try:
-                self.process.wait(PATIENCE)
-            except subprocess.TimeoutExpired:
-                self.process.kill()
-                self.process.wait()
+            end(self.process)
         self.kept.cleanup()

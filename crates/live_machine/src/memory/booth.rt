@@ -6,6 +6,7 @@ use crate::booth_machine::{BoothMachine, BoothNote};
 use crate::clock::NightClock;
 use crate::input::{Came, MachineInput, NightInput};
 use devices::LinkFault;
+use memory_steps::MemorySteps;
 use std::alloc::Global;
 
 /// A wait of a booth over memory, from a moment to what was due.
@@ -47,48 +48,25 @@ pub enum MemoryStep {
     FinishScreen,
 }
 
-/// The machine of a booth over memory. It stops telling where memory for a step is refused.
+/// What answers in a booth over memory.
 #[derive(Debug, Drop)]
-pub struct MemoryBooth<'a> {
-    alloc: Global,
+pub struct BoothDevices<'a> {
+    /// Where the bytes of its steps are kept.
+    pub alloc: Global,
     pub clock: NightClock<MemoryClock>,
     pub input: NightInput<MemoryInput<'a>>,
-    /// The steps, the first first.
-    pub steps: Vec<MemoryStep>,
-    /// Memory was refused: steps are missing.
-    pub full: bool,
 }
 
-impl<'a> MemoryBooth<'a> {
-    /// A machine that did nothing yet.
-    pub fn new(
-        alloc: Global,
-        clock: NightClock<MemoryClock>,
-        input: NightInput<MemoryInput<'a>>,
-    ) -> Self
-        ensures clock { result.clock ≡ clock }
-        ensures input { result.input ≡ input.entry }
-        ensures steps { result.steps.items ≡ [] }
-        ensures tells { result.full ≡ false }
-    {
-        MemoryBooth {
-            alloc,
-            clock,
-            input,
-            steps: Vec::new(alloc),
-            full: false,
-        }
-    }
+/// The machine of a booth over memory.
+pub type MemoryBooth<'a> = MemorySteps<BoothDevices<'a>, MemoryStep>;
 
-    fn note(&mut self, step: MemoryStep)
-        ensures told { self.new.full ≡ false → self.old.full ≡ false }
-        ensures step { self.new.full ≡ false → map step_of self.new.steps.items
-            ≡ map step_of self.old.steps.items ++ step_of step ∷ [] }
-    {
-        if self.steps.push(step).is_err() {
-            self.full = true;
-        }
-    }
+#[tactic(auto, using(std::proofs::lemmas::List::map_push))]
+fn keep_step(booth: &mut MemoryBooth<'_>, step: MemoryStep)
+    ensures told { booth.new.full ≡ false → booth.old.full ≡ false }
+    ensures step { booth.new.full ≡ false → map step_of booth.new.steps.items
+        ≡ map step_of booth.old.steps.items ++ step_of step ∷ [] }
+{
+    booth.keep(step);
 }
 
 impl BoothMachine for MemoryBooth<'_> {
@@ -99,73 +77,76 @@ impl BoothMachine for MemoryBooth<'_> {
     ghost steps = { λ m. map step_of m.steps.items };
 
     fn hand_on(&mut self) {
-        self.note(MemoryStep::HandOn);
+        keep_step(self, MemoryStep::HandOn);
     }
 
     fn moment(&mut self) -> Result<u64, LinkFault> {
-        let moment = self.clock.moment();
-        self.note(MemoryStep::Clock(moment));
+        let moment = self.answers.clock.moment();
+        keep_step(self, MemoryStep::Clock(moment));
         moment
     }
 
     fn look(&mut self, moment: u64) {
-        self.note(MemoryStep::Look(moment));
+        keep_step(self, MemoryStep::Look(moment));
     }
 
     fn tell_again(&mut self, moment: u64) {
-        self.note(MemoryStep::TellAgain(moment));
+        keep_step(self, MemoryStep::TellAgain(moment));
     }
 
     fn hear(&mut self, moment: u64, due: u64, block: &mut [u8; 4096]) -> Result<Came, LinkFault> {
-        let answer = self.input.hear(moment, due, block);
-        match Vec::from_slice(self.alloc, block) {
-            Ok(block) => self.note(MemoryStep::Hear(MemoryHearing {
-                moment,
-                due,
-                answer,
-                block,
-            })),
+        let answer = self.answers.input.hear(moment, due, block);
+        match Vec::from_slice(self.answers.alloc, block) {
+            Ok(block) => keep_step(
+                self,
+                MemoryStep::Hear(MemoryHearing {
+                    moment,
+                    due,
+                    answer,
+                    block,
+                }),
+            ),
             Err(_) => self.full = true,
         }
         answer
     }
 
     fn hear_led(&mut self, milliseconds: u64, typed: &mut [u8; 4096]) -> Result<Came, LinkFault> {
-        let answer = self.input.input.wait(milliseconds, typed);
-        self.note(MemoryStep::HearLed(milliseconds, answer));
+        let answer = self.answers.input.input.wait(milliseconds, typed);
+        keep_step(self, MemoryStep::HearLed(milliseconds, answer));
         answer
     }
 
     fn tell(&mut self, note: BoothNote) {
-        self.note(MemoryStep::Tell(note));
+        keep_step(self, MemoryStep::Tell(note));
     }
 
     fn keep(&mut self, line: &[u8]) {
-        match Vec::from_slice(self.alloc, line) {
-            Ok(line) => self.note(MemoryStep::Keep(line)),
+        match Vec::from_slice(self.answers.alloc, line) {
+            Ok(line) => keep_step(self, MemoryStep::Keep(line)),
             Err(_) => self.full = true,
         }
     }
 
     fn copy(&mut self, line: &[u8]) {
-        match Vec::from_slice(self.alloc, line) {
-            Ok(line) => self.note(MemoryStep::Copy(line)),
+        match Vec::from_slice(self.answers.alloc, line) {
+            Ok(line) => keep_step(self, MemoryStep::Copy(line)),
             Err(_) => self.full = true,
         }
     }
 
     fn show(&mut self, line: &[u8]) {
-        match Vec::from_slice(self.alloc, line) {
-            Ok(line) => self.note(MemoryStep::Show(line)),
+        match Vec::from_slice(self.answers.alloc, line) {
+            Ok(line) => keep_step(self, MemoryStep::Show(line)),
             Err(_) => self.full = true,
         }
     }
 
     fn finish_record(&mut self) {
-        self.note(MemoryStep::FinishRecord);
+        keep_step(self, MemoryStep::FinishRecord);
     }
 
     fn finish_screen(&mut self) {
-        self.note(MemoryStep::FinishScreen);
+        keep_step(self, MemoryStep::FinishScreen);
     }
 }

@@ -1,50 +1,21 @@
-ghost use Rattle.std.specs.Prelude.{◌≡◌, false, [], ◌∷◌, ◌++◌, OnOk, OnErr};
-ghost use Rattle.live_machine.specs.NightDevices.{had_or_missing, missed, opened};
+ghost use Rattle.std.specs.Prelude.{◌≡◌, false, is_ok};
+ghost use Rattle.memory_steps.specs.Keeping.{OnlyKeeps};
+ghost use Rattle.live_machine.specs.NightDevices.{asked_for, had_or_missing};
 ghost use Rattle.live_machine.specs.declared.night_devices.NightDevice.TheVariants as device;
 
 use crate::night_devices::{DeviceStep, DeviceSystem, NightDevice};
-use std::alloc::Global;
+use memory_steps::MemorySteps;
 
-/// Devices over memory. They stop telling where memory for a step is refused.
-#[derive(Debug, Drop)]
-pub struct MemoryDevices {
-    /// This one is not had, if any.
-    pub missing: Option<NightDevice>,
-    /// The steps, the first first.
-    pub steps: Vec<DeviceStep>,
-    /// Memory was refused: steps are missing.
-    pub full: bool,
-}
+/// Devices over memory. They answer which one is missing, if any.
+pub type MemoryDevices = MemorySteps<Option<NightDevice>, DeviceStep>;
 
-impl MemoryDevices {
-    /// Devices of which none was asked for yet.
-    pub fn new(alloc: Global, missing: Option<NightDevice>) -> Self
-        ensures missing { result.missing ≡ missing }
-        ensures steps { result.steps.items ≡ [] }
-        ensures tells { result.full ≡ false }
-    {
-        MemoryDevices {
-            missing,
-            steps: Vec::new(alloc),
-            full: false,
-        }
-    }
-
-    fn ask_for(&mut self, device: NightDevice) -> Result<(), NightDevice>
-        ensures answer { result ≡ had_or_missing self.old.missing device }
-        ensures same { self.new.missing ≡ self.old.missing }
-        ensures told { self.new.full ≡ false → self.old.full ≡ false }
-        ensures ok { OnOk result (self.new.full ≡ false
-            → self.new.steps.items ≡ self.old.steps.items ++ opened device ∷ []) }
-        ensures err { OnErr result (self.new.full ≡ false
-            → self.new.steps.items ≡ self.old.steps.items ++ missed device ∷ []) }
-    {
-        let is_open = self.missing != Some(device);
-        if self.steps.push(DeviceStep { device, is_open }).is_err() {
-            self.full = true;
-        }
-        if is_open { Ok(()) } else { Err(device) }
-    }
+fn ask_for(devices: &mut MemoryDevices, device: NightDevice) -> Result<(), NightDevice>
+    ensures answer { result ≡ had_or_missing devices.old.answers device }
+    ensures keeps { OnlyKeeps devices.old devices.new (asked_for device (is_ok result)) }
+{
+    let is_open = devices.answers != Some(device);
+    devices.keep(DeviceStep { device, is_open });
+    if is_open { Ok(()) } else { Err(device) }
 }
 
 impl DeviceSystem for MemoryDevices {
@@ -63,50 +34,30 @@ impl DeviceSystem for MemoryDevices {
     ghost steps = { λ m. m.steps.items };
 
     fn open_record(&mut self) -> Result<(), NightDevice>
-        ensures answer { result ≡ had_or_missing self.old.missing device.Record }
-        ensures same { self.new.missing ≡ self.old.missing }
-        ensures told { self.new.full ≡ false → self.old.full ≡ false }
-        ensures ok { OnOk result (self.new.full ≡ false
-            → self.new.steps.items ≡ self.old.steps.items ++ opened device.Record ∷ []) }
-        ensures err { OnErr result (self.new.full ≡ false
-            → self.new.steps.items ≡ self.old.steps.items ++ missed device.Record ∷ []) }
+        ensures answer { result ≡ had_or_missing self.old.answers device.Record }
+        ensures keeps { OnlyKeeps self.old self.new (asked_for device.Record (is_ok result)) }
     {
-        self.ask_for(NightDevice::Record)
+        ask_for(self, NightDevice::Record)
     }
 
     fn open_screen(&mut self) -> Result<(), NightDevice>
-        ensures answer { result ≡ had_or_missing self.old.missing device.Screen }
-        ensures same { self.new.missing ≡ self.old.missing }
-        ensures told { self.new.full ≡ false → self.old.full ≡ false }
-        ensures ok { OnOk result (self.new.full ≡ false
-            → self.new.steps.items ≡ self.old.steps.items ++ opened device.Screen ∷ []) }
-        ensures err { OnErr result (self.new.full ≡ false
-            → self.new.steps.items ≡ self.old.steps.items ++ missed device.Screen ∷ []) }
+        ensures answer { result ≡ had_or_missing self.old.answers device.Screen }
+        ensures keeps { OnlyKeeps self.old self.new (asked_for device.Screen (is_ok result)) }
     {
-        self.ask_for(NightDevice::Screen)
+        ask_for(self, NightDevice::Screen)
     }
 
     fn take_cid_lock(&mut self) -> Result<(), NightDevice>
-        ensures answer { result ≡ had_or_missing self.old.missing device.CidLock }
-        ensures same { self.new.missing ≡ self.old.missing }
-        ensures told { self.new.full ≡ false → self.old.full ≡ false }
-        ensures ok { OnOk result (self.new.full ≡ false
-            → self.new.steps.items ≡ self.old.steps.items ++ opened device.CidLock ∷ []) }
-        ensures err { OnErr result (self.new.full ≡ false
-            → self.new.steps.items ≡ self.old.steps.items ++ missed device.CidLock ∷ []) }
+        ensures answer { result ≡ had_or_missing self.old.answers device.CidLock }
+        ensures keeps { OnlyKeeps self.old self.new (asked_for device.CidLock (is_ok result)) }
     {
-        self.ask_for(NightDevice::CidLock)
+        ask_for(self, NightDevice::CidLock)
     }
 
     fn open_network(&mut self) -> Result<(), NightDevice>
-        ensures answer { result ≡ had_or_missing self.old.missing device.Network }
-        ensures same { self.new.missing ≡ self.old.missing }
-        ensures told { self.new.full ≡ false → self.old.full ≡ false }
-        ensures ok { OnOk result (self.new.full ≡ false
-            → self.new.steps.items ≡ self.old.steps.items ++ opened device.Network ∷ []) }
-        ensures err { OnErr result (self.new.full ≡ false
-            → self.new.steps.items ≡ self.old.steps.items ++ missed device.Network ∷ []) }
+        ensures answer { result ≡ had_or_missing self.old.answers device.Network }
+        ensures keeps { OnlyKeeps self.old self.new (asked_for device.Network (is_ok result)) }
     {
-        self.ask_for(NightDevice::Network)
+        ask_for(self, NightDevice::Network)
     }
 }

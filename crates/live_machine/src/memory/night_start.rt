@@ -1,9 +1,10 @@
-ghost use Rattle.std.specs.Prelude.{◌≡◌, false, is_ok, [], ◌∷◌, ◌++◌, OnOk, OnErr, true};
+ghost use Rattle.std.specs.Prelude.{◌≡◌, false, is_ok};
+ghost use Rattle.memory_steps.specs.Keeping.{OnlyKeeps};
 ghost use Rattle.live_machine.specs.declared.night_start.StartStep.TheVariants as step;
 
 use crate::night_start::{StartStep, StartSystem};
 use devices::LinkFault;
-use std::alloc::Global;
+use memory_steps::MemorySteps;
 
 /// What the steps of a start over memory answer.
 #[derive(Clone, Copy, Debug)]
@@ -14,41 +15,8 @@ pub struct StartAnswers {
     pub record: Result<(), LinkFault>,
 }
 
-/// The start of a night over memory. It stops telling where memory for a step is refused.
-#[derive(Debug, Drop)]
-pub struct MemoryStart {
-    pub answers: StartAnswers,
-    /// The steps, the first first.
-    pub steps: Vec<StartStep>,
-    /// Memory was refused: steps are missing.
-    pub full: bool,
-}
-
-impl MemoryStart {
-    /// A start of which no step was done yet.
-    pub fn new(alloc: Global, answers: StartAnswers) -> Self
-        ensures answers { result.answers ≡ answers }
-        ensures steps { result.steps.items ≡ [] }
-        ensures tells { result.full ≡ false }
-    {
-        MemoryStart {
-            answers,
-            steps: Vec::new(alloc),
-            full: false,
-        }
-    }
-
-    fn keep(&mut self, step: StartStep)
-        ensures same { self.new.answers ≡ self.old.answers }
-        ensures told { self.new.full ≡ false → self.old.full ≡ false }
-        ensures step { self.new.full ≡ false
-            → self.new.steps.items ≡ self.old.steps.items ++ step ∷ [] }
-    {
-        if self.steps.push(step).is_err() {
-            self.full = true;
-        }
-    }
-}
+/// The start of a night over memory.
+pub type MemoryStart = MemorySteps<StartAnswers, StartStep>;
 
 impl StartSystem for MemoryStart {
     type Pause = u64;
@@ -60,22 +28,14 @@ impl StartSystem for MemoryStart {
     ghost steps = { λ m. m.steps.items };
 
     fn tell_missing_locks(&mut self)
-        ensures same { self.new.answers ≡ self.old.answers }
-        ensures told { self.new.full ≡ false → self.old.full ≡ false }
-        ensures step { self.new.full ≡ false
-            → self.new.steps.items ≡ self.old.steps.items ++ step.MissingLocks ∷ [] }
+        ensures { OnlyKeeps self.old self.new step.MissingLocks }
     {
         self.keep(StartStep::MissingLocks);
     }
 
     fn tell_lines(&mut self) -> Result<(), LinkFault>
         ensures answer { result ≡ self.old.answers.lines }
-        ensures same { self.new.answers ≡ self.old.answers }
-        ensures told { self.new.full ≡ false → self.old.full ≡ false }
-        ensures ok { OnOk result (self.new.full ≡ false
-            → self.new.steps.items ≡ self.old.steps.items ++ step.Lines true ∷ []) }
-        ensures err { OnErr result (self.new.full ≡ false
-            → self.new.steps.items ≡ self.old.steps.items ++ step.Lines false ∷ []) }
+        ensures keeps { OnlyKeeps self.old self.new (step.Lines (is_ok result)) }
     {
         let answer = self.answers.lines;
         self.keep(StartStep::Lines(answer.is_ok()));
@@ -84,12 +44,7 @@ impl StartSystem for MemoryStart {
 
     fn look_at_pause(&mut self) -> Result<u64, LinkFault>
         ensures answer { result ≡ self.old.answers.pause }
-        ensures same { self.new.answers ≡ self.old.answers }
-        ensures told { self.new.full ≡ false → self.old.full ≡ false }
-        ensures ok { OnOk result (self.new.full ≡ false
-            → self.new.steps.items ≡ self.old.steps.items ++ step.Pause true ∷ []) }
-        ensures err { OnErr result (self.new.full ≡ false
-            → self.new.steps.items ≡ self.old.steps.items ++ step.Pause false ∷ []) }
+        ensures keeps { OnlyKeeps self.old self.new (step.Pause (is_ok result)) }
     {
         let answer = self.answers.pause;
         self.keep(StartStep::Pause(answer.is_ok()));
@@ -98,12 +53,7 @@ impl StartSystem for MemoryStart {
 
     fn begin_record(&mut self) -> Result<(), LinkFault>
         ensures answer { result ≡ self.old.answers.record }
-        ensures same { self.new.answers ≡ self.old.answers }
-        ensures told { self.new.full ≡ false → self.old.full ≡ false }
-        ensures ok { OnOk result (self.new.full ≡ false
-            → self.new.steps.items ≡ self.old.steps.items ++ step.Record true ∷ []) }
-        ensures err { OnErr result (self.new.full ≡ false
-            → self.new.steps.items ≡ self.old.steps.items ++ step.Record false ∷ []) }
+        ensures keeps { OnlyKeeps self.old self.new (step.Record (is_ok result)) }
     {
         let answer = self.answers.record;
         self.keep(StartStep::Record(answer.is_ok()));

@@ -1,10 +1,11 @@
-ghost use Rattle.std.specs.Prelude.{◌≡◌, false, [], ◌∷◌, ◌++◌};
+ghost use Rattle.std.specs.Prelude.{◌≡◌, false};
+ghost use Rattle.memory_steps.specs.Keeping.{OnlyKeeps};
 ghost use Rattle.night_files.specs.declared.record_opening.RecordStep.TheVariants as step;
 
 use crate::lock_request::FileLock;
 use crate::record_opening::{FileFault, FoundFile, NamedFile, RecordStep, RecordSystem};
 use crate::record_use::FileAccess;
-use std::alloc::Global;
+use memory_steps::MemorySteps;
 
 /// What the steps towards a file over memory answer.
 #[derive(Clone, Copy, Debug)]
@@ -18,41 +19,8 @@ pub struct FileAnswers {
     pub text: Result<(), FileFault>,
 }
 
-/// The file of a record over memory. It stops telling where memory for a step is refused.
-#[derive(Debug, Drop)]
-pub struct MemoryFile {
-    pub answers: FileAnswers,
-    /// The steps, the first first.
-    pub steps: Vec<RecordStep>,
-    /// Memory was refused: steps are missing.
-    pub full: bool,
-}
-
-impl MemoryFile {
-    /// A file that nothing was done with yet.
-    pub fn new(alloc: Global, answers: FileAnswers) -> Self
-        ensures answers { result.answers ≡ answers }
-        ensures steps { result.steps.items ≡ [] }
-        ensures tells { result.full ≡ false }
-    {
-        MemoryFile {
-            answers,
-            steps: Vec::new(alloc),
-            full: false,
-        }
-    }
-
-    fn keep(&mut self, step: RecordStep)
-        ensures same { self.new.answers ≡ self.old.answers }
-        ensures told { self.new.full ≡ false → self.old.full ≡ false }
-        ensures step { self.new.full ≡ false
-            → self.new.steps.items ≡ self.old.steps.items ++ step ∷ [] }
-    {
-        if self.steps.push(step).is_err() {
-            self.full = true;
-        }
-    }
-}
+/// The file of a record over memory.
+pub type MemoryFile = MemorySteps<FileAnswers, RecordStep>;
 
 impl RecordSystem for MemoryFile {
     ghost tells = { λ m. m.full ≡ false };
@@ -61,10 +29,7 @@ impl RecordSystem for MemoryFile {
 
     fn is_fifo(&mut self) -> bool
         ensures answer { result ≡ self.old.answers.is_fifo }
-        ensures same { self.new.answers ≡ self.old.answers }
-        ensures told { self.new.full ≡ false → self.old.full ≡ false }
-        ensures step { self.new.full ≡ false
-            → self.new.steps.items ≡ self.old.steps.items ++ step.Name result ∷ [] }
+        ensures keeps { OnlyKeeps self.old self.new (step.Name result) }
     {
         let answer = self.answers.is_fifo;
         self.keep(RecordStep::Name(answer));
@@ -73,10 +38,7 @@ impl RecordSystem for MemoryFile {
 
     fn open(&mut self, access: FileAccess) -> Result<(), FileFault>
         ensures answer { result ≡ self.old.answers.opened }
-        ensures same { self.new.answers ≡ self.old.answers }
-        ensures told { self.new.full ≡ false → self.old.full ≡ false }
-        ensures step { self.new.full ≡ false
-            → self.new.steps.items ≡ self.old.steps.items ++ step.Open access result ∷ [] }
+        ensures keeps { OnlyKeeps self.old self.new (step.Open access result) }
     {
         let answer = self.answers.opened;
         self.keep(RecordStep::Open(access, answer));
@@ -85,10 +47,7 @@ impl RecordSystem for MemoryFile {
 
     fn look(&mut self) -> Result<FoundFile, FileFault>
         ensures answer { result ≡ self.old.answers.found }
-        ensures same { self.new.answers ≡ self.old.answers }
-        ensures told { self.new.full ≡ false → self.old.full ≡ false }
-        ensures step { self.new.full ≡ false
-            → self.new.steps.items ≡ self.old.steps.items ++ step.Look result ∷ [] }
+        ensures keeps { OnlyKeeps self.old self.new (step.Look result) }
     {
         let answer = self.answers.found;
         self.keep(RecordStep::Look(answer));
@@ -97,10 +56,7 @@ impl RecordSystem for MemoryFile {
 
     fn lock(&mut self) -> FileLock
         ensures answer { result ≡ self.old.answers.lock }
-        ensures same { self.new.answers ≡ self.old.answers }
-        ensures told { self.new.full ≡ false → self.old.full ≡ false }
-        ensures step { self.new.full ≡ false
-            → self.new.steps.items ≡ self.old.steps.items ++ step.Lock result ∷ [] }
+        ensures keeps { OnlyKeeps self.old self.new (step.Lock result) }
     {
         let answer = self.answers.lock;
         self.keep(RecordStep::Lock(answer));
@@ -109,10 +65,7 @@ impl RecordSystem for MemoryFile {
 
     fn lock_at_once(&mut self) -> FileLock
         ensures answer { result ≡ self.old.answers.lock }
-        ensures same { self.new.answers ≡ self.old.answers }
-        ensures told { self.new.full ≡ false → self.old.full ≡ false }
-        ensures step { self.new.full ≡ false
-            → self.new.steps.items ≡ self.old.steps.items ++ step.LockAtOnce result ∷ [] }
+        ensures keeps { OnlyKeeps self.old self.new (step.LockAtOnce result) }
     {
         let answer = self.answers.lock;
         self.keep(RecordStep::LockAtOnce(answer));
@@ -121,10 +74,7 @@ impl RecordSystem for MemoryFile {
 
     fn look_again(&mut self) -> Result<NamedFile, FileFault>
         ensures answer { result ≡ self.old.answers.named }
-        ensures same { self.new.answers ≡ self.old.answers }
-        ensures told { self.new.full ≡ false → self.old.full ≡ false }
-        ensures step { self.new.full ≡ false
-            → self.new.steps.items ≡ self.old.steps.items ++ step.LookAgain result ∷ [] }
+        ensures keeps { OnlyKeeps self.old self.new (step.LookAgain result) }
     {
         let answer = self.answers.named;
         self.keep(RecordStep::LookAgain(answer));
@@ -133,10 +83,7 @@ impl RecordSystem for MemoryFile {
 
     fn keep_pause(&mut self) -> Result<(), FileFault>
         ensures answer { result ≡ self.old.answers.pause }
-        ensures same { self.new.answers ≡ self.old.answers }
-        ensures told { self.new.full ≡ false → self.old.full ≡ false }
-        ensures step { self.new.full ≡ false
-            → self.new.steps.items ≡ self.old.steps.items ++ step.Pause result ∷ [] }
+        ensures keeps { OnlyKeeps self.old self.new (step.Pause result) }
     {
         let answer = self.answers.pause;
         self.keep(RecordStep::Pause(answer));
@@ -145,10 +92,7 @@ impl RecordSystem for MemoryFile {
 
     fn keep_text(&mut self) -> Result<(), FileFault>
         ensures answer { result ≡ self.old.answers.text }
-        ensures same { self.new.answers ≡ self.old.answers }
-        ensures told { self.new.full ≡ false → self.old.full ≡ false }
-        ensures step { self.new.full ≡ false
-            → self.new.steps.items ≡ self.old.steps.items ++ step.Read result ∷ [] }
+        ensures keeps { OnlyKeeps self.old self.new (step.Read result) }
     {
         let answer = self.answers.text;
         self.keep(RecordStep::Read(answer));

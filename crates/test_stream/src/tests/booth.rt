@@ -1,5 +1,5 @@
 use devices::LinkFault;
-use live_machine::memory::{MemoryBooth, MemoryClock, MemoryInput, MemoryStep};
+use live_machine::memory::{BoothDevices, MemoryBooth, MemoryClock, MemoryInput, MemoryStep};
 use live_machine::{BoothNote, Came, Hearing, NightBooth, NightClock, NightInput, booth_law};
 use std::alloc::Global;
 use std::process::Abort;
@@ -10,12 +10,12 @@ use std::time::Duration;
 fn booth(alloc: Global, typed: &[u8], passing: u64) -> NightBooth<MemoryBooth<'_>> {
     let clock = MemoryClock::new(alloc, Duration::from_millis(100), passing, 1);
     let input = MemoryInput::new(alloc, typed, 4096, 9, 0);
-    let machine = MemoryBooth::new(
+    let devices = BoothDevices {
         alloc,
-        NightClock::new(clock, 1000),
-        NightInput::new(input, false),
-    );
-    NightBooth::new(machine, false)
+        clock: NightClock::new(clock, 1000),
+        input: NightInput::new(input, false),
+    };
+    NightBooth::new(MemoryBooth::new(alloc, devices), false)
 }
 
 // What a step is called, and its moment, where it has one.

@@ -1,4 +1,4 @@
-use night_files::memory::MemoryLock;
+use night_files::memory::{LockAnswers, MemoryLock};
 use night_files::{FileLock, LockStep, ask_for_lock};
 use std::alloc::Global;
 use std::process::Abort;
@@ -16,9 +16,9 @@ fn passed_between(steps: &[LockStep]) -> bool {
 }
 
 fn holds(alloc: Global, row: &Row) -> bool {
-    let (held, then, answer, times) = *row;
-    let mut lock = MemoryLock::new(alloc, held, then);
-    let is_answer = ask_for_lock(&mut lock) == answer;
+    let (held, then, expected, times) = *row;
+    let mut lock = MemoryLock::new(alloc, LockAnswers { held, answer: then });
+    let is_answer = ask_for_lock(&mut lock) == expected;
     let steps = lock.steps.as_slice();
     !lock.full && is_answer && steps.len().div_ceil(2) == times && passed_between(steps)
 }

@@ -29,7 +29,7 @@ fn is_in_order(devices: &MemoryDevices, order: &[NightDevice]) -> bool {
     let steps = devices.steps.as_slice();
     let count = match order
         .iter()
-        .position(|device| devices.missing == Some(*device))
+        .position(|device| devices.answers == Some(*device))
     {
         Some(place) => place + 1,
         None => order.len(),
@@ -38,7 +38,7 @@ fn is_in_order(devices: &MemoryDevices, order: &[NightDevice]) -> bool {
     !devices.full
         && steps.len() == count
         && in_turn.all(|(step, device)| {
-            step.device == *device && step.is_open == (devices.missing != Some(*device))
+            step.device == *device && step.is_open == (devices.answers != Some(*device))
         })
 }
 

@@ -1,6 +1,5 @@
-use Rattle.std.proofs.Common.{ℕ, List, All}
-use Rattle.byte_reading.specs.LinesLeft.{bytes_left, source}
-use Rattle.byte_reading.proofs.ReadLines.{ReadTo}
+use Rattle.std.proofs.Common.{All}
+use Rattle.byte_reading.proofs.SoFar.{SoFar}
 use Rattle.network_tables.specs.NeighborRows.{IsNoNeighbor}
 use Rattle.network_tables.proofs.neighbor_table.next_neighbor.Given as goal
 
@@ -8,8 +7,4 @@ use Rattle.network_tables.proofs.neighbor_table.next_neighbor.Given as goal
 abbrev pub invariant-loop : goal.invariant-loop
 invariant-loop g l =
     let B = g.B.BlockSource in
-    record {
-      read : (lines : List (List ℕ)) × All IsNoNeighbor lines
-          × ReadTo (bytes_left B.left l.initial.table) (bytes_left B.left l.table) lines l.counter;
-      same : B.may_fail (source l.table) → B.may_fail (source l.initial.table);
-    }
+    SoFar B.left B.may_fail l.initial.table l.table l.counter (All IsNoNeighbor)
