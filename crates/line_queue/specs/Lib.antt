@@ -7,6 +7,9 @@ pub mod Kept
 pub mod Watches
 pub mod Owed
 pub mod Ways
-pub mod ScreenDeeds
+pub mod OutputDeeds
+pub mod Waits
 pub mod Screens
+pub mod Recording
+pub mod RecordLaws
 pub mod KeptDeeds

@@ -19,15 +19,14 @@ mod notice;
 mod owed;
 mod pipe;
 mod queue;
+mod record;
 mod screen;
 mod watch;
 mod way;
 mod writers;
 
-pub use laws::notices_law;
-pub use memory::{
-    MemoryDeed, MemoryOutputs, MemoryPipe, MemoryWay, MemoryWriters, ScreenLine, WayAnswers,
-};
+pub use laws::{notices_law, record_law};
+pub use memory::{MemoryDeed, MemoryOutputs, MemoryPipe, MemoryWay, ScreenLine, WayAnswers};
 pub use notice::{Notice, NoticeText};
 pub use owed::{
     GivenBytes, OwedLine, WrittenFile, WrittenFiles, outputs_owed_line, owed_by_outputs,
@@ -35,6 +34,7 @@ pub use owed::{
 };
 pub use pipe::Pipe;
 pub use queue::LineQueue;
+pub use record::{RecordKeeper, RecordOutputs};
 pub use screen::{Screen, ScreenOutputs};
 pub use watch::{OutputLook, OutputNotice, OutputWatch};
 pub use way::{PipeVariable, WayStep, WaySystem, open_way};
