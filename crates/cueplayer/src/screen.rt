@@ -1,9 +1,13 @@
 ghost use Rattle.std.specs.Prelude.{[]};
 
-use line_queue::{GivenBytes, Notice, OutputLook, ScreenOutputs, WrittenFiles, owed_by_outputs};
+use line_queue::{
+    GivenBytes, Notice, OutputLook, ScreenOutputs, Writers, WrittenFiles, owed_by_outputs,
+};
 use night_lines::LineTeller;
 use std::io::Stdout;
-use system_devices::{BoundedOutput, DeviceFault, Messages, Names, PipedOutput, wait_for_writers};
+use std::thread::sleep;
+use std::time::Duration;
+use system_devices::{BoundedOutput, DeviceFault, Messages, Names, open_output, written_file};
 
 const NAMES: Names = Names {
     output: "standard output",
@@ -21,9 +25,9 @@ pub type Replies = BoundedOutput<Stdout>;
 ///
 /// # Errors
 ///
-/// As those of [`BoundedOutput::new`].
+/// As those of [`open_output`].
 pub fn open_replies(rt: &HostRuntime) -> Result<Replies, DeviceFault> {
-    BoundedOutput::new(rt, rt.stdout(), NAMES)
+    open_output(rt, rt.stdout(), NAMES)
 }
 
 /// What the operator of a night sees: replies on standard output, and messages on standard error.
@@ -31,17 +35,20 @@ pub fn open_replies(rt: &HostRuntime) -> Result<Replies, DeviceFault> {
 #[derive(Drop)]
 pub struct Screen {
     screen: line_queue::Screen<NightOutputs>,
-    // Its files before the night.
-    before: WrittenFiles,
 }
 
 impl Screen {
     /// The screen of a night that begins.
     pub fn new(rt: &HostRuntime, replies: Replies, messages: Messages) -> Self {
-        let outputs = NightOutputs { replies, messages };
-        let before = outputs.written_files(rt);
-        let screen = line_queue::Screen::new(outputs);
-        Screen { screen, before }
+        let before = written_files(rt, &replies, &messages);
+        let outputs = NightOutputs {
+            replies,
+            messages,
+            before,
+        };
+        Screen {
+            screen: line_queue::Screen::new(outputs),
+        }
     }
 
     /// Shows a reply on standard output, as soon as what waits is handed on. A tick can have
@@ -68,9 +75,7 @@ impl Screen {
     /// Hands on what waits, at the end of the night, and waits for the processes that write the
     /// files of standard output and standard error.
     pub fn finish(&mut self, rt: &HostRuntime) {
-        self.screen.finish();
-        let left = wait_for_writers(rt, self);
-        self.screen.tell_owed(left);
+        self.screen.finish(rt);
     }
 }
 
@@ -84,38 +89,44 @@ impl LineTeller for Screen {
     }
 }
 
-impl PipedOutput for Screen {
-    fn unwritten_bytes(&self, rt: &HostRuntime) -> u64 {
-        let outputs = &self.screen.outputs;
-        let given = GivenBytes {
-            output: outputs.replies.piped_bytes(),
-            error: outputs.messages.piped_bytes(),
-        };
-        owed_by_outputs(self.before, given, outputs.written_files(rt))
+fn written_files(rt: &HostRuntime, replies: &Replies, messages: &Messages) -> WrittenFiles {
+    WrittenFiles {
+        output: written_file(rt, replies),
+        error: written_file(rt, messages),
     }
 }
 
 // Standard output and standard error. They do not tell what was done.
 #[derive(Drop)]
 struct NightOutputs {
-    replies: BoundedOutput<Stdout>,
+    replies: Replies,
     messages: Messages,
+    // Their files before the night.
+    before: WrittenFiles,
 }
 
-impl NightOutputs {
-    fn written_files(&self, rt: &HostRuntime) -> WrittenFiles {
-        WrittenFiles {
-            output: self.replies.written_file(rt),
-            error: self.messages.written_file(rt),
-        }
-    }
-}
+impl Writers for NightOutputs {
+    type System = HostRuntime;
 
-impl ScreenOutputs for NightOutputs {
     ghost tells = { λ _. ⊥ };
 
     ghost deeds = { λ _. [] };
 
+    fn owed_bytes(&mut self, rt: &HostRuntime) -> u64 {
+        let given = GivenBytes {
+            output: self.replies.piped_bytes(),
+            error: self.messages.piped_bytes(),
+        };
+        let now = written_files(rt, &self.replies, &self.messages);
+        owed_by_outputs(self.before, given, now)
+    }
+
+    fn wait_turn(&mut self, rt: &HostRuntime) {
+        sleep(rt, Duration::from_millis(1));
+    }
+}
+
+impl ScreenOutputs for NightOutputs {
     fn take_reply(&mut self, line: &[u8]) {
         self.replies.take(line);
     }
@@ -133,7 +144,7 @@ impl ScreenOutputs for NightOutputs {
     }
 
     fn tell(&mut self, line: &[u8]) {
-        self.messages.tell(line);
+        self.messages.put(line);
     }
 
     fn hand_on_messages(&mut self) {

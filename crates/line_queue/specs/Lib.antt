@@ -6,6 +6,7 @@ pub mod Handing
 pub mod Kept
 pub mod Watches
 pub mod Owed
+pub mod LineOutputs
 pub mod Ways
 pub mod OutputDeeds
 pub mod Waits

@@ -16,6 +16,7 @@
 mod laws;
 mod memory;
 mod notice;
+mod output;
 mod owed;
 mod pipe;
 mod queue;
@@ -28,9 +29,10 @@ mod writers;
 pub use laws::{notices_law, record_law};
 pub use memory::{MemoryDeed, MemoryOutputs, MemoryPipe, MemoryWay, ScreenLine, WayAnswers};
 pub use notice::{Notice, NoticeText};
+pub use output::LineOutput;
 pub use owed::{
     GivenBytes, OwedLine, WrittenFile, WrittenFiles, outputs_owed_line, owed_by_outputs,
-    owed_bytes, piped_bytes, record_owed_line,
+    owed_bytes, record_owed_line,
 };
 pub use pipe::Pipe;
 pub use queue::LineQueue;
