@@ -1,13 +1,9 @@
 ghost use Rattle.std.specs.Prelude.{[]};
 
-use line_queue::{
-    GivenBytes, Notice, OutputLook, ScreenOutputs, Writers, WrittenFiles, owed_by_outputs,
-};
+use line_queue::{Notice, QueuedOutputs};
 use night_lines::LineTeller;
-use std::io::Stdout;
-use std::thread::sleep;
-use std::time::Duration;
-use system_devices::{BoundedOutput, DeviceFault, Messages, Names, open_output, written_file};
+use std::io::{Stderr, Stdout};
+use system_devices::{BoundedOutput, DeviceFault, Messages, Names, PolledWay, open_output};
 
 const NAMES: Names = Names {
     output: "standard output",
@@ -34,18 +30,13 @@ pub fn open_replies(rt: &HostRuntime) -> Result<Replies, DeviceFault> {
 /// They hold nobody up, and a reader of replies that has gone is told of once.
 #[derive(Drop)]
 pub struct Screen {
-    screen: line_queue::Screen<NightOutputs>,
+    screen: line_queue::Screen<QueuedOutputs<PolledWay<Stdout>, PolledWay<Stderr>>>,
 }
 
 impl Screen {
     /// The screen of a night that begins.
     pub fn new(rt: &HostRuntime, replies: Replies, messages: Messages) -> Self {
-        let before = written_files(rt, &replies, &messages);
-        let outputs = NightOutputs {
-            replies,
-            messages,
-            before,
-        };
+        let outputs = QueuedOutputs::new(replies, messages, rt);
         Screen {
             screen: line_queue::Screen::new(outputs),
         }
@@ -86,72 +77,5 @@ impl LineTeller for Screen {
 
     fn tell(&mut self, line: &[u8]) {
         Screen::tell(self, line);
-    }
-}
-
-fn written_files(rt: &HostRuntime, replies: &Replies, messages: &Messages) -> WrittenFiles {
-    WrittenFiles {
-        output: written_file(rt, replies),
-        error: written_file(rt, messages),
-    }
-}
-
-// Standard output and standard error. They do not tell what was done.
-#[derive(Drop)]
-struct NightOutputs {
-    replies: Replies,
-    messages: Messages,
-    // Their files before the night.
-    before: WrittenFiles,
-}
-
-impl Writers for NightOutputs {
-    type System = HostRuntime;
-
-    ghost tells = { λ _. ⊥ };
-
-    ghost deeds = { λ _. [] };
-
-    fn owed_bytes(&mut self, rt: &HostRuntime) -> u64 {
-        let given = GivenBytes {
-            output: self.replies.piped_bytes(),
-            error: self.messages.piped_bytes(),
-        };
-        let now = written_files(rt, &self.replies, &self.messages);
-        owed_by_outputs(self.before, given, now)
-    }
-
-    fn wait_turn(&mut self, rt: &HostRuntime) {
-        sleep(rt, Duration::from_millis(1));
-    }
-}
-
-impl ScreenOutputs for NightOutputs {
-    fn take_reply(&mut self, line: &[u8]) {
-        self.replies.take(line);
-    }
-
-    fn hand_on_replies(&mut self) {
-        self.replies.hand_on();
-    }
-
-    fn finish_replies(&mut self) {
-        self.replies.finish();
-    }
-
-    fn look_at_replies(&mut self) -> OutputLook {
-        self.replies.look()
-    }
-
-    fn tell(&mut self, line: &[u8]) {
-        self.messages.put(line);
-    }
-
-    fn hand_on_messages(&mut self) {
-        self.messages.hand_on();
-    }
-
-    fn finish_messages(&mut self) {
-        self.messages.finish();
     }
 }

@@ -20,6 +20,7 @@ mod output;
 mod owed;
 mod pipe;
 mod queue;
+mod queued;
 mod record;
 mod screen;
 mod watch;
@@ -36,6 +37,7 @@ pub use owed::{
 };
 pub use pipe::Pipe;
 pub use queue::LineQueue;
+pub use queued::{FilePipe, QueuedOutputs};
 pub use record::{RecordKeeper, RecordOutputs};
 pub use screen::{Screen, ScreenOutputs};
 pub use watch::{OutputLook, OutputNotice, OutputWatch};

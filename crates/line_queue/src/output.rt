@@ -1,8 +1,13 @@
-ghost use Rattle.std.specs.Prelude.{◌≡◌, ◌∷◌, [], None, Some};
+ghost use Rattle.std.specs.Prelude.{◌≡◌, ◌∷◌, [], Option, None, Some};
+ghost use Rattle.line_queue.specs.Entries.{capped_count};
 ghost use Rattle.line_queue.specs.LineOutputs.{Changes, HandsOn, Puts, Takes, is_output_late};
 ghost use Rattle.line_queue.specs.LineOutputs.{look_in, piped_in};
+ghost use Rattle.line_queue.specs.Owed.{owed_bytes};
+ghost use Rattle.line_queue.specs.declared.owed.WrittenFile.{WrittenFile as FileOf};
 
-use crate::{LineQueue, OutputLook, Pipe};
+use crate::owed::owed_bytes;
+use crate::queued::FilePipe;
+use crate::{LineQueue, OutputLook, Pipe, WrittenFile};
 
 /// An output for lines that may be closed. An open one is a [`LineQueue`]; of lines that are put
 /// into a closed one nothing becomes.
@@ -63,6 +68,26 @@ impl<P: Pipe> LineOutput<P> {
         if let Some(queue) = &mut self.queue {
             queue.finish();
         }
+    }
+}
+
+impl<P: FilePipe> LineOutput<P> {
+    /// Its file, if it is open and another process writes that.
+    pub fn written_file(&self, system: &P::System) -> Option<WrittenFile>
+        ensures { self.now.queue ≡ None → result ≡ None }
+    {
+        let Some(queue) = &self.queue else {
+            return None;
+        };
+        queue.pipe.written_file(system)
+    }
+
+    /// How many bytes its writer owes, up to 2^64 - 1, of a file that had so many before.
+    pub fn owed_bytes(&self, before: u64, system: &P::System) -> u64
+        ensures { (now : Option FileOf)
+            × (result ≡ capped_count (owed_bytes before (piped_in self.now.queue) now)) }
+    {
+        owed_bytes(before, self.piped_bytes(), self.written_file(system))
     }
 }
 

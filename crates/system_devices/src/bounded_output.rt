@@ -3,10 +3,12 @@ ghost use Rattle.std.specs.Prelude.{[], false, None};
 use crate::descriptor_poll::DescriptorPoll;
 use crate::fault::DeviceFault;
 use crate::way::Way;
-use line_queue::{LineOutput, LineQueue, Notice, Pipe, WrittenFile};
+use line_queue::{FilePipe, LineOutput, LineQueue, Notice, Pipe, WrittenFile};
 use mio::Interest;
 use std::io::{Error, ErrorKind, Result as IoResult, Write};
 use std::os::fd::AsRawFd;
+use std::thread::sleep;
+use std::time::Duration;
 
 /// What an output is called, and what its lines are.
 #[derive(Clone, Copy)]
@@ -60,6 +62,18 @@ impl<W: Write> Pipe for PolledWay<W> {
     }
 }
 
+impl<W: Write + AsRawFd> FilePipe for PolledWay<W> {
+    type System = HostRuntime;
+
+    fn written_file(&self, rt: &HostRuntime) -> Option<WrittenFile> {
+        self.way.written_file(rt)
+    }
+
+    fn wait_turn(rt: &HostRuntime) {
+        sleep(rt, Duration::from_millis(1));
+    }
+}
+
 /// Opens an output.
 ///
 /// # Errors
@@ -79,12 +93,4 @@ pub fn open_output<W: Write + AsRawFd + Drop>(
         Ok(queue) => Ok(LineOutput::open(queue)),
         Err(_) => Err(DeviceFault::Memory),
     }
-}
-
-/// The file of an output, if another process writes it.
-pub fn written_file<W: AsRawFd>(
-    rt: &HostRuntime,
-    output: &BoundedOutput<W>,
-) -> Option<WrittenFile> {
-    output.queue.as_ref()?.pipe.way.written_file(rt)
 }

@@ -35,7 +35,7 @@ mod way;
 mod written_record;
 
 pub use appended_lines::AppendedLines;
-pub use bounded_output::{BoundedOutput, Names, PolledWay, open_output, written_file};
+pub use bounded_output::{BoundedOutput, Names, PolledWay, open_output};
 pub use card_sender::CardSender;
 pub use cards::read_cards;
 pub use cid_lock::{CidLock, LockFault};

@@ -1,11 +1,9 @@
 ghost use Rattle.std.specs.Prelude.{[]};
 
-use crate::bounded_output::{BoundedOutput, written_file};
+use crate::bounded_output::{BoundedOutput, PolledWay};
 use crate::messages::Messages;
-use line_queue::{LineOutput, OutputLook, RecordKeeper, RecordOutputs, Writers, owed_bytes};
+use line_queue::{FilePipe, LineOutput, OutputLook, RecordKeeper, RecordOutputs, Writers};
 use std::fs::File;
-use std::thread::sleep;
-use std::time::Duration;
 
 /// Where the lines of a night are kept, if anywhere.
 #[derive(Drop)]
@@ -33,34 +31,19 @@ impl Record {
 
     /// Keeps a line as [`RecordKeeper::keep`] does.
     pub fn keep(&mut self, line: &[u8], messages: &mut Messages) {
-        let (lines, length) = (&mut self.lines, self.length);
-        let mut outputs = NightRecord {
-            lines,
-            length,
-            messages,
-        };
+        let mut outputs = NightRecord::of(&mut self.lines, self.length, messages);
         self.keeper.keep(&mut outputs, line);
     }
 
     /// Keeps a line before the night begins, as [`RecordKeeper::copy`] does.
     pub fn copy(&mut self, line: &[u8], messages: &mut Messages) {
-        let (lines, length) = (&mut self.lines, self.length);
-        let mut outputs = NightRecord {
-            lines,
-            length,
-            messages,
-        };
+        let mut outputs = NightRecord::of(&mut self.lines, self.length, messages);
         self.keeper.copy(&mut outputs, line);
     }
 
     /// Hands on what waits, at the end of the night, and waits for a writer.
     pub fn finish(&mut self, rt: &HostRuntime, messages: &mut Messages) {
-        let (lines, length) = (&mut self.lines, self.length);
-        let mut outputs = NightRecord {
-            lines,
-            length,
-            messages,
-        };
+        let mut outputs = NightRecord::of(&mut self.lines, self.length, messages);
         self.keeper.finish(&mut outputs, rt);
     }
 }
@@ -73,6 +56,16 @@ struct NightRecord<'a> {
     messages: &'a mut Messages,
 }
 
+impl<'a> NightRecord<'a> {
+    fn of(lines: &'a mut BoundedOutput<File>, length: u64, messages: &'a mut Messages) -> Self {
+        NightRecord {
+            lines,
+            length,
+            messages,
+        }
+    }
+}
+
 impl Writers for NightRecord<'_> {
     type System = HostRuntime;
 
@@ -81,15 +74,11 @@ impl Writers for NightRecord<'_> {
     ghost deeds = { λ _. [] };
 
     fn owed_bytes(&mut self, rt: &HostRuntime) -> u64 {
-        owed_bytes(
-            self.length,
-            self.lines.piped_bytes(),
-            written_file(rt, self.lines),
-        )
+        self.lines.owed_bytes(self.length, rt)
     }
 
     fn wait_turn(&mut self, rt: &HostRuntime) {
-        sleep(rt, Duration::from_millis(1));
+        PolledWay::<File>::wait_turn(rt);
     }
 }
 
