@@ -1,6 +1,6 @@
 ghost use Rattle.std.specs.Prelude.{[]};
 
-use line_queue::{Notice, QueuedOutputs};
+use line_queue::{Notice, QueuedOutputs, WrittenFiles};
 use night_lines::LineTeller;
 use std::io::{Stderr, Stdout};
 use system_devices::{BoundedOutput, DeviceFault, Messages, Names, PolledWay, open_output};
@@ -36,7 +36,11 @@ pub struct Screen {
 impl Screen {
     /// The screen of a night that begins.
     pub fn new(rt: &HostRuntime, replies: Replies, messages: Messages) -> Self {
-        let outputs = QueuedOutputs::new(replies, messages, rt);
+        let before = WrittenFiles {
+            output: replies.written_file(rt),
+            error: messages.written_file(rt),
+        };
+        let outputs = QueuedOutputs::new(replies, messages, before);
         Screen {
             screen: line_queue::Screen::new(outputs),
         }

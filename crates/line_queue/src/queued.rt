@@ -30,15 +30,12 @@ pub struct QueuedOutputs<R, M> {
     before: WrittenFiles,
 }
 
-impl<R: FilePipe + Drop, M: FilePipe<System = R::System> + Drop> QueuedOutputs<R, M> {
-    /// The outputs of a night that begins.
-    pub fn new(replies: LineOutput<R>, messages: LineOutput<M>, system: &R::System) -> Self
-        ensures { (result.replies ≡ replies) × (result.messages ≡ messages) }
+impl<R: Drop, M: Drop> QueuedOutputs<R, M> {
+    /// The outputs of a night, whose files were so before it.
+    pub fn new(replies: LineOutput<R>, messages: LineOutput<M>, before: WrittenFiles) -> Self
+        ensures outputs { (result.replies ≡ replies) × (result.messages ≡ messages) }
+        ensures before { files_before result ≡ before }
     {
-        let before = WrittenFiles {
-            output: replies.written_file(system),
-            error: messages.written_file(system),
-        };
         QueuedOutputs {
             replies,
             messages,
