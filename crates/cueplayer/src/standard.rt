@@ -1,7 +1,7 @@
 use crate::device_failure::of_device_fault;
 use remarks::Failure;
 use std::os::fd::AsFd;
-use system_devices::{Messages, TypedInput};
+use system_devices::{Messages, TypedInput, open_messages};
 
 /// The descriptors that a live night was started with. Standard error may be closed.
 #[derive(Drop)]
@@ -19,7 +19,7 @@ impl<'a> Standard<'a> {
         ask_for(&rt.stdout(), "standard output")?;
         let is_told = ask_for(&rt.stderr(), "standard error").is_ok();
         let input = TypedInput::open(rt).map_err(of_device_fault)?;
-        let messages = Messages::new(rt, is_told).map_err(of_device_fault)?;
+        let messages = open_messages(rt, is_told).map_err(of_device_fault)?;
         Ok(Standard { input, messages })
     }
 }

@@ -1,3 +1,4 @@
 pub mod Accounting
+pub mod Recorded
 mod Screening
 pub mod Watching

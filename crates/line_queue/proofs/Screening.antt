@@ -4,8 +4,8 @@ use Rattle.std.proofs.Common.{ap, append_assoc, arith, nat_eq, sym}
 use Rattle.std.specs.Prelude.{codes}
 use Rattle.line_queue.specs.Owed.{outputs_owed_line}
 use Rattle.line_queue.specs.Screens.{failure_told, is_failure, owed_told}
-use Rattle.line_queue.specs.ScreenDeeds.{ScreenDeed}
-use Rattle.line_queue.specs.ScreenDeeds.ScreenDeed.{FinishMessages, LookAtReplies, Message}
+use Rattle.line_queue.specs.OutputDeeds.{OutputDeed}
+use Rattle.line_queue.specs.OutputDeeds.OutputDeed.{FinishMessages, LookAtReplies, Message}
 use Rattle.line_queue.specs.Watches.{news_of_output}
 use Rattle.line_queue.specs.declared.watch.OutputLook.{OutputLook}
 use Rattle.line_queue.specs.declared.watch.OutputWatch.{OutputWatch}
@@ -14,13 +14,13 @@ some_owed : (left : ℕ) → 0 < left → nat_eq left 0 ≡ false
 some_owed left some = grind (arith)
 
 -- two deeds
-two : (old one new : List ScreenDeed) (first second : ScreenDeed) → one ≡ old ++ first ∷ []
+two : (old one new : List OutputDeed) (first second : OutputDeed) → one ≡ old ++ first ∷ []
     → new ≡ one ++ second ∷ [] → new ≡ old ++ (first ∷ second ∷ [])
 two old one new first second was is =
     is ∙ ap (λ xs. xs ++ second ∷ []) was ∙ append_assoc old (first ∷ []) (second ∷ [])
 
 -- what is owed was told, and handed on
-pub owed_behind : (left : ℕ) (line : List ℕ) (old one new : List ScreenDeed) → 0 < left
+pub owed_behind : (left : ℕ) (line : List ℕ) (old one new : List OutputDeed) → 0 < left
     → line ≡ outputs_owed_line left → one ≡ old ++ Message line ∷ []
     → new ≡ one ++ FinishMessages ∷ [] → new ≡ old ++ owed_told left
 owed_behind left line old one new some words was is =
@@ -31,7 +31,7 @@ owed_behind left line old one new some words was is =
 
 -- a failure was told
 pub failure_behind : (told : OutputWatch) (look : OutputLook) (line : List ℕ)
-    (old one new : List ScreenDeed) → is_failure (news_of_output told look) ≡ true
+    (old one new : List OutputDeed) → is_failure (news_of_output told look) ≡ true
     → line ≡ codes "replies: device fault\n" → one ≡ old ++ LookAtReplies look ∷ []
     → new ≡ one ++ Message line ∷ [] → new ≡ old ++ (LookAtReplies look ∷ failure_told told look)
 failure_behind told look line old one new failed words was is =

@@ -10,10 +10,10 @@ use Rattle.line_queue.specs.declared.watch.OutputWatch.{OutputWatch}
 use Rattle.line_queue.specs.Watches.{AreInTurn, NoticesLaw, told_after, before_notices, is_missing}
 use Rattle.line_queue.specs.Watches.{news_of_output, notices_of}
 
-abbrev watch_of : Bool → Bool → ℕ → OutputWatch
+abbrev pub watch_of : Bool → Bool → ℕ → OutputWatch
 watch_of failed late gaps = record { has_failed = failed; is_late = late; gaps = gaps }
 
-abbrev look_of : Bool → Bool → ℕ → OutputLook
+abbrev pub look_of : Bool → Bool → ℕ → OutputLook
 look_of failed late gaps = record { has_failed = failed; is_late = late; gaps = gaps }
 
 -- the notices after a look, behind its own

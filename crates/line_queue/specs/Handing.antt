@@ -14,3 +14,9 @@ pub record AsksAtMost (parts milliseconds : ℕ) (old new : PipeTape) : Type 0 w
 abbrev pub IsDone : {P : Type 0} → ℕ → LineQueue P → PipeTape → PipeTape → Type 0
 IsDone parts queue old new =
     (waiting_in queue ≡ []) ⊎ ((new.is_full ≡ true) ⊎ (new.writes ≡ old.writes + parts))
+
+-- behind a line that was taken: nothing waits any more, the pipe takes nothing, or it was written to
+-- at least so often
+abbrev pub IsHandedOn : {P : Type 0} → ℕ → LineQueue P → PipeTape → PipeTape → Type 0
+IsHandedOn parts queue old new =
+    (waiting_in queue ≡ []) ⊎ ((new.is_full ≡ true) ⊎ (old.writes + parts ≤ new.writes))

@@ -6,7 +6,11 @@ pub mod Handing
 pub mod Kept
 pub mod Watches
 pub mod Owed
+pub mod LineOutputs
 pub mod Ways
-pub mod ScreenDeeds
+pub mod OutputDeeds
+pub mod Waits
 pub mod Screens
+pub mod Recording
+pub mod RecordLaws
 pub mod KeptDeeds

@@ -1,6 +1,6 @@
 -- What processes that write the files of outputs owe: bytes that they were given, and that the
 -- files do not have yet.
-use Rattle.std.specs.Prelude.{ℕ, ◌+◌, ◌-◌, Bool, true, false, ◌&&◌, nat_eq, if◌then◌else◌}
+use Rattle.std.specs.Prelude.{ℕ, ◌+◌, ◌-◌, Bool, false, ◌&&◌, nat_eq, if◌then◌else◌}
 use Rattle.std.specs.Prelude.{List, ◌++◌, Option, Some, None, codes, decimal}
 use Rattle.std.specs.declared.io.ErrorKind.{ErrorKind}
 use Rattle.line_queue.specs.declared.owed.WrittenFile.{WrittenFile}
@@ -11,11 +11,10 @@ abbrev pub length_of : Option WrittenFile → ℕ
 length_of None = 0
 length_of (Some file) = file.length
 
--- such a process was given what its pipe took; nothing where the output has no pipe, and where the
--- pipe failed nothing counts any more
-abbrev pub piped_bytes : Bool → Option ErrorKind → ℕ → ℕ
-piped_bytes true None taken = taken
-piped_bytes is_pipe failure taken = 0
+-- such a process was given what its pipe took; where the pipe failed nothing counts any more
+abbrev pub piped_bytes : Option ErrorKind → ℕ → ℕ
+piped_bytes None taken = taken
+piped_bytes (Some kind) taken = 0
 
 -- of a file that was so long before, whose writer was given so many bytes, and that is so now:
 -- where no other process writes it, nothing is owed

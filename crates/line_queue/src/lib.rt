@@ -16,25 +16,29 @@
 mod laws;
 mod memory;
 mod notice;
+mod output;
 mod owed;
 mod pipe;
 mod queue;
+mod queued;
+mod record;
 mod screen;
 mod watch;
 mod way;
 mod writers;
 
-pub use laws::notices_law;
-pub use memory::{
-    MemoryDeed, MemoryOutputs, MemoryPipe, MemoryWay, MemoryWriters, ScreenLine, WayAnswers,
-};
+pub use laws::{notices_law, record_law};
+pub use memory::{MemoryDeed, MemoryOutputs, MemoryPipe, MemoryWay, ScreenLine, WayAnswers};
 pub use notice::{Notice, NoticeText};
+pub use output::LineOutput;
 pub use owed::{
     GivenBytes, OwedLine, WrittenFile, WrittenFiles, outputs_owed_line, owed_by_outputs,
-    owed_bytes, piped_bytes, record_owed_line,
+    owed_bytes, record_owed_line,
 };
 pub use pipe::Pipe;
 pub use queue::LineQueue;
+pub use queued::{FilePipe, QueuedOutputs};
+pub use record::{RecordKeeper, RecordOutputs};
 pub use screen::{Screen, ScreenOutputs};
 pub use watch::{OutputLook, OutputNotice, OutputWatch};
 pub use way::{PipeVariable, WayStep, WaySystem, open_way};

@@ -1,3 +1,4 @@
+mod record;
 mod screen;
 mod way;
 mod writers;
@@ -15,7 +16,6 @@ pub use screen::{MemoryDeed, MemoryOutputs, ScreenLine};
 use std::alloc::Global;
 use std::io::ErrorKind;
 pub use way::{MemoryWay, WayAnswers};
-pub use writers::MemoryWriters;
 
 /// A pipe over memory. It stops telling where memory for the bytes is refused, and where its calls
 /// or the milliseconds given to it are more than 2^64 - 1.

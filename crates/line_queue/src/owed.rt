@@ -1,11 +1,10 @@
 ghost use Rattle.std.specs.Prelude.{◌≡◌, ◌≤◌};
 ghost use Rattle.line_queue.specs.Entries.{capped_count};
 ghost use Rattle.line_queue.specs.Owed.{are_one_file, length_of, outputs_owed_line, owed_bytes};
-ghost use Rattle.line_queue.specs.Owed.{owed_by_outputs, piped_bytes, record_owed_line};
+ghost use Rattle.line_queue.specs.Owed.{owed_by_outputs, record_owed_line};
 
 use arrayvec::ArrayString;
 use itoa::Buffer;
-use std::io::ErrorKind;
 
 /// A file that another process writes.
 #[derive(Clone, Copy, Debug, PartialEq, Eq)]
@@ -34,18 +33,6 @@ pub struct GivenBytes {
 
 /// A line about bytes that are owed: 20 digits and 45 bytes of words have room.
 pub type OwedLine = ArrayString<72>;
-
-/// How many bytes the writer of an output's file was given, of those that the output took: 0 where
-/// it is no pipe to a writer, or where it failed.
-pub fn piped_bytes(is_pipe: bool, failure: Option<ErrorKind>, taken: u64) -> u64
-    ensures { result ≡ piped_bytes is_pipe failure taken }
-{
-    if is_pipe && failure.is_none() {
-        taken
-    } else {
-        0
-    }
-}
 
 /// How many bytes a writer owes, up to 2^64 - 1: of a file that had so many before, of the bytes
 /// that it was given since.

@@ -70,7 +70,7 @@ impl<P: Pipe + Drop> LineQueue<P> {
 impl<P: Pipe> LineQueue<P> {
     ghost use Rattle.std.specs.Prelude.{◌<◌, ◌+◌, ◌++◌, ◌∷◌, ◌&&◌, [], length, nat_eq, nat_le};
     ghost use Rattle.std.specs.Prelude.{IsNone, None};
-    ghost use Rattle.line_queue.specs.Handing.{AsksAtMost, IsDone};
+    ghost use Rattle.line_queue.specs.Handing.{AsksAtMost, IsDone, IsHandedOn};
     ghost use Rattle.line_queue.specs.Stands.{HasRoom, TakesMore, dropped_in, failure_in};
     ghost use Rattle.line_queue.specs.Stands.{notice_in, waiting_in};
 
@@ -82,6 +82,8 @@ impl<P: Pipe> LineQueue<P> {
             (P.tape self.old.pipe) self.new (P.tape self.new.pipe) }
         ensures asks { P.tells self.new.pipe
             → AsksAtMost 32 0 (P.tape self.old.pipe) (P.tape self.new.pipe) }
+        ensures handed { P.tells self.new.pipe
+            → IsHandedOn 16 self.new (P.tape self.old.pipe) (P.tape self.new.pipe) }
         ensures over { IsSome (failure_in self.old) → self.new ≡ self.old }
     {
         self.take(line);
@@ -230,6 +232,7 @@ impl<P> LineQueue<P> {
     ghost use Rattle.std.specs.Prelude.{◌<◌, ◌++◌, ◌∷◌, [], List, ℕ, None, Some, false, length};
     ghost use Rattle.std.specs.Prelude.{take};
     ghost use Rattle.line_queue.specs.Entries.{IsQueueText};
+    ghost use Rattle.line_queue.specs.Owed.{piped_bytes};
     ghost use Rattle.line_queue.specs.Pipes.{PipeTape, after_write};
     ghost use Rattle.line_queue.specs.Stands.{Accounts, StandsFor, dropped_in, failure_in, gaps_in};
     ghost use Rattle.line_queue.specs.Stands.{is_late, notice_in, bytes_taken, waiting_in};
@@ -308,6 +311,17 @@ impl<P> LineQueue<P> {
         ensures { result ≡ bytes_taken self.now }
     {
         self.taken
+    }
+
+    /// How many bytes the process that writes its file was given, if there is one: 0 where a write
+    /// failed.
+    pub fn piped_bytes(&self) -> u64
+        ensures { result ≡ piped_bytes (failure_in self.now) (bytes_taken self.now) }
+    {
+        match self.failure {
+            Some(_) => 0,
+            None => self.taken,
+        }
     }
 
     /// How many times lines are missing, and a notice stands in their place, up to 2^64 - 1.

@@ -1,67 +1,60 @@
-ghost use Rattle.std.specs.Prelude.{◌≡◌, List, [], ◌∷◌, ◌++◌};
+ghost use Rattle.std.specs.Prelude.{◌≡◌, [], ◌∷◌, ◌++◌};
 ghost use Rattle.line_queue.specs.Screens.{is_failure};
-ghost use Rattle.line_queue.specs.ScreenDeeds.{ScreenDeed};
-ghost use Rattle.line_queue.specs.ScreenDeeds.ScreenDeed.{FinishMessages, FinishReplies};
-ghost use Rattle.line_queue.specs.ScreenDeeds.ScreenDeed.{HandOnMessages, HandOnReplies};
-ghost use Rattle.line_queue.specs.ScreenDeeds.ScreenDeed.{LookAtReplies, Message, Reply};
+ghost use Rattle.line_queue.specs.OutputDeeds.OutputDeed.{FinishMessages, FinishReplies};
+ghost use Rattle.line_queue.specs.OutputDeeds.OutputDeed.{HandOnMessages, HandOnReplies};
+ghost use Rattle.line_queue.specs.OutputDeeds.OutputDeed.{LookAtReplies, Message, Reply};
 
 use crate::owed::outputs_owed_line;
 use crate::watch::{OutputLook, OutputNotice, OutputWatch};
+use crate::writers::{Writers, wait_for_writers};
 
 // What is told of replies that cannot be written any more.
 const REPLIES_FAILED: &str = "replies: device fault\n";
 
-/// The two outputs of a night: its replies, and its messages. Neither holds anybody up.
-///
-/// They *tell* where contracts can see what was done: then they told before each deed, too.
-pub trait ScreenOutputs {
-    /// Contracts can see what was done.
-    ghost tells: { Self → Type 0 };
-
-    /// What was done, the first first.
-    ghost deeds: { Self → List ScreenDeed };
-
+/// The two outputs of a night: its replies, and its messages. Neither holds anybody up, and other
+/// processes may write their files.
+pub trait ScreenOutputs: Writers {
     /// Takes a reply for the next time that replies are handed on.
     fn take_reply(&mut self, line: &[u8])
-        ensures told { tells self.new → tells self.old }
-        ensures deed { tells self.new
-            → deeds self.new ≡ deeds self.old ++ Reply line.now ∷ [] };
+        ensures told { Self.tells self.new → Self.tells self.old }
+        ensures deed { Self.tells self.new
+            → Self.deeds self.new ≡ Self.deeds self.old ++ Reply line.now ∷ [] };
 
     /// Hands on the replies that wait, as far as they are taken at once.
     fn hand_on_replies(&mut self)
-        ensures told { tells self.new → tells self.old }
-        ensures deed { tells self.new
-            → deeds self.new ≡ deeds self.old ++ HandOnReplies ∷ [] };
+        ensures told { Self.tells self.new → Self.tells self.old }
+        ensures deed { Self.tells self.new
+            → Self.deeds self.new ≡ Self.deeds self.old ++ HandOnReplies ∷ [] };
 
     /// Hands on the replies that wait, at the end of the night.
     fn finish_replies(&mut self)
-        ensures told { tells self.new → tells self.old }
-        ensures deed { tells self.new
-            → deeds self.new ≡ deeds self.old ++ FinishReplies ∷ [] };
+        ensures told { Self.tells self.new → Self.tells self.old }
+        ensures deed { Self.tells self.new
+            → Self.deeds self.new ≡ Self.deeds self.old ++ FinishReplies ∷ [] };
 
     /// How the output of replies is.
     fn look_at_replies(&mut self) -> OutputLook
-        ensures told { tells self.new → tells self.old }
-        ensures deed { tells self.new
-            → deeds self.new ≡ deeds self.old ++ LookAtReplies result ∷ [] };
+        ensures told { Self.tells self.new → Self.tells self.old }
+        ensures deed { Self.tells self.new
+            → Self.deeds self.new ≡ Self.deeds self.old ++ LookAtReplies result ∷ [] };
 
     /// Tells a message.
     fn tell(&mut self, line: &[u8])
-        ensures told { tells self.new → tells self.old }
-        ensures deed { tells self.new
-            → deeds self.new ≡ deeds self.old ++ Message line.now ∷ [] };
+        ensures told { Self.tells self.new → Self.tells self.old }
+        ensures deed { Self.tells self.new
+            → Self.deeds self.new ≡ Self.deeds self.old ++ Message line.now ∷ [] };
 
     /// Hands on the messages that wait, as far as they are taken at once.
     fn hand_on_messages(&mut self)
-        ensures told { tells self.new → tells self.old }
-        ensures deed { tells self.new
-            → deeds self.new ≡ deeds self.old ++ HandOnMessages ∷ [] };
+        ensures told { Self.tells self.new → Self.tells self.old }
+        ensures deed { Self.tells self.new
+            → Self.deeds self.new ≡ Self.deeds self.old ++ HandOnMessages ∷ [] };
 
     /// Hands on the messages that wait, at the end of the night.
     fn finish_messages(&mut self)
-        ensures told { tells self.new → tells self.old }
-        ensures deed { tells self.new
-            → deeds self.new ≡ deeds self.old ++ FinishMessages ∷ [] };
+        ensures told { Self.tells self.new → Self.tells self.old }
+        ensures deed { Self.tells self.new
+            → Self.deeds self.new ≡ Self.deeds self.old ++ FinishMessages ∷ [] };
 }
 
 /// What the operator of a night sees: replies, and messages behind the replies that were shown
@@ -90,7 +83,10 @@ impl<O: Drop> Screen<O> {
 }
 
 impl<O: ScreenOutputs> Screen<O> {
-    ghost use Rattle.line_queue.specs.Screens.{failure_told, in_turn, owed_told, told_of_replies};
+    ghost use Rattle.std.specs.Prelude.{ℕ, List};
+    ghost use Rattle.line_queue.specs.Screens.{end_of_screen, failure_told, in_turn, owed_told};
+    ghost use Rattle.line_queue.specs.Screens.{told_of_replies};
+    ghost use Rattle.line_queue.specs.Waits.{IsWait};
     ghost use Rattle.line_queue.specs.Watches.{told_after};
     ghost use Rattle.line_queue.specs.declared.watch.OutputLook.{OutputLook as LookOf};
 
@@ -128,8 +124,22 @@ impl<O: ScreenOutputs> Screen<O> {
         self.outputs.hand_on_messages();
     }
 
-    /// Hands on what waits, at the end of the night: the replies, and then the messages.
-    pub fn finish(&mut self)
+    /// Hands on what waits, at the end of the night: the replies, and then the messages. Then it
+    /// waits for the writers of their files, and tells how many bytes these still owe, if any.
+    pub fn finish(&mut self, system: &O::System)
+        ensures told { O.tells self.new.outputs → O.tells self.old.outputs }
+        ensures end { (look : LookOf) × (owed : List ℕ) × (left : ℕ) × IsWait owed left
+            × (told_of_replies self.new ≡ told_after (told_of_replies self.old) look)
+            × (O.tells self.new.outputs → O.deeds self.new.outputs ≡ O.deeds self.old.outputs
+            ++ end_of_screen (told_of_replies self.old) look owed left) }
+    {
+        self.finish_outputs();
+        let left = wait_for_writers(&mut self.outputs, system);
+        self.tell_owed(left);
+    }
+
+    // Hands on what waits for the last time.
+    fn finish_outputs(&mut self)
         ensures told { O.tells self.new.outputs → O.tells self.old.outputs }
         ensures in_turn { (look : LookOf)
             × (told_of_replies self.new ≡ told_after (told_of_replies self.old) look)
@@ -141,9 +151,8 @@ impl<O: ScreenOutputs> Screen<O> {
         self.outputs.finish_messages();
     }
 
-    /// Tells how many bytes the writers of the outputs still owe at the end of the night, if they
-    /// owe any, and hands that on.
-    pub fn tell_owed(&mut self, left: u64)
+    // Tells how many bytes are still owed, if any, and hands that on.
+    fn tell_owed(&mut self, left: u64)
         ensures told { O.tells self.new.outputs → O.tells self.old.outputs }
         ensures owed { O.tells self.new.outputs → O.deeds self.new.outputs
             ≡ O.deeds self.old.outputs ++ owed_told left }

@@ -2,7 +2,7 @@ ghost use Rattle.std.specs.Prelude.{◌≡◌};
 ghost use Rattle.line_queue.specs.Watches.{told_after, news_of_output, record_notice};
 
 /// How an output is at a look.
-#[derive(Clone, Copy, Debug, PartialEq, Eq)]
+#[derive(Clone, Copy, Debug, Default, PartialEq, Eq)]
 pub struct OutputLook {
     /// A write failed, and nothing more is written.
     pub has_failed: bool,

@@ -1,47 +1,48 @@
-ghost use Rattle.std.specs.Prelude.{◌≡◌, ◌≤◌, ◌+◌, ℕ};
+ghost use Rattle.std.specs.Prelude.{◌≡◌, ℕ, List, [], ◌∷◌, ◌++◌};
+ghost use Rattle.line_queue.specs.OutputDeeds.{OutputDeed};
+ghost use Rattle.line_queue.specs.OutputDeeds.OutputDeed.{Owed, WaitTurn};
+ghost use Rattle.line_queue.specs.Waits.{IsWait, wait_deeds};
 
 /// Outputs whose bytes may go through pipes to other processes, which write their files.
 ///
-/// They *tell* where contracts can see how long they were waited for, under the rules of an
-/// [`Output`](devices::Output).
+/// They *tell* where contracts can see what was done: then they told before each deed, too.
 pub trait Writers {
-    /// Contracts can see how long they were waited for.
+    /// What the files are looked at with, and the time.
+    type System;
+
+    /// Contracts can see what was done.
     ghost tells: { Self → Type 0 };
 
-    /// How many bytes were owed when it was last looked.
-    ghost owed: { Self → ℕ };
-
-    /// For how many milliseconds they were waited for.
-    ghost waited: { Self → ℕ };
+    /// What was done, the first first.
+    ghost deeds: { Self → List OutputDeed };
 
     /// How many bytes these processes were given that the files do not have yet.
-    fn owed_bytes(&mut self) -> u64
+    fn owed_bytes(&mut self, system: &Self::System) -> u64
         ensures told { tells self.new → tells self.old }
-        ensures owed { tells self.new → owed self.new ≡ result }
-        ensures waited { tells self.new → waited self.new ≡ waited self.old };
+        ensures deed { tells self.new
+            → deeds self.new ≡ deeds self.old ++ Owed result ∷ [] };
 
     /// Waits a millisecond.
-    fn wait_turn(&mut self)
+    fn wait_turn(&mut self, system: &Self::System)
         ensures told { tells self.new → tells self.old }
-        ensures waited { tells self.new → waited self.new ≡ waited self.old + 1 };
+        ensures deed { tells self.new
+            → deeds self.new ≡ deeds self.old ++ WaitTurn ∷ [] };
 }
 
 // At the end of a night writers are waited for so many milliseconds.
 const PATIENCE: u32 = 2000;
 
 /// Waits until all is written, two seconds at most. Returns how many bytes are still owed.
-pub fn wait_for_writers<W: Writers>(writers: &mut W) -> u64
+pub fn wait_for_writers<W: Writers>(writers: &mut W, system: &W::System) -> u64
     ensures told { W.tells writers.new → W.tells writers.old }
-    ensures owed { W.tells writers.new → W.owed writers.new ≡ result }
-    ensures short { W.tells writers.new → W.waited writers.new ≤ W.waited writers.old + 2000 }
-    ensures patient { 1 ≤ result → W.tells writers.new
-        → W.waited writers.new ≡ W.waited writers.old + 2000 }
+    ensures wait { (owed : List ℕ) × IsWait owed result × (W.tells writers.new
+        → W.deeds writers.new ≡ W.deeds writers.old ++ wait_deeds owed result) }
 {
     for _ in 0..PATIENCE {
-        if writers.owed_bytes() == 0 {
+        if writers.owed_bytes(system) == 0 {
             return 0;
         }
-        writers.wait_turn();
+        writers.wait_turn(system);
     }
-    writers.owed_bytes()
+    writers.owed_bytes(system)
 }

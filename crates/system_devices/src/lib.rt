@@ -1,7 +1,7 @@
 //! The devices of the system: files, standard input and output, sockets, and the lock of a CID.
 //!
 //! None of them tells what it gave or took, so hardly anything is said of them in contracts. An
-//! output that holds nobody up ([`BoundedOutput`]) is a `LineQueue`, whose contract says what
+//! output that holds nobody up ([`BoundedOutput`]) has a `LineQueue`, whose contract says what
 //! becomes of each line; how long the system's calls take is measured, and not proved.
 #![tactic(auto)]
 
@@ -32,11 +32,10 @@ mod system_routes;
 mod tied_socket;
 mod typed_input;
 mod way;
-mod writers;
 mod written_record;
 
 pub use appended_lines::AppendedLines;
-pub use bounded_output::{BoundedOutput, Names};
+pub use bounded_output::{BoundedOutput, Names, PolledWay, open_output};
 pub use card_sender::CardSender;
 pub use cards::read_cards;
 pub use cid_lock::{CidLock, LockFault};
@@ -44,7 +43,7 @@ pub use fault::DeviceFault;
 pub use host_name::machine_name;
 pub use input::SystemInput;
 pub use machine::SystemClock;
-pub use messages::Messages;
+pub use messages::{Messages, open_messages};
 pub use network::{Leaving, Network, Source};
 pub use output::SystemOutput;
 pub use packet_paths::{Path, hidden_cards, is_multicast, named_source};
@@ -56,4 +55,3 @@ pub use socket::{AddressText, ReceivingSocket, SocketFault};
 pub use system_cards::SystemCards;
 pub use system_network::SystemNetwork;
 pub use typed_input::TypedInput;
-pub use writers::{PipedOutput, wait_for_writers};

@@ -1,95 +1,105 @@
-use crate::bounded_output::BoundedOutput;
+ghost use Rattle.std.specs.Prelude.{[]};
+
+use crate::bounded_output::{BoundedOutput, PolledWay};
 use crate::messages::Messages;
-use crate::writers::{PipedOutput, wait_for_writers};
-use line_queue::{OutputNotice, OutputWatch, owed_bytes, record_owed_line};
+use line_queue::{FilePipe, LineOutput, OutputLook, RecordKeeper, RecordOutputs, Writers};
 use std::fs::File;
 
 /// Where the lines of a night are kept, if anywhere.
 #[derive(Drop)]
 pub struct Record {
-    lines: Option<BoundedOutput<File>>,
-    // Its file, which stays locked where no line can be kept any more.
-    file: Option<File>,
+    lines: BoundedOutput<File>,
     // How long its file was before.
     length: u64,
-    watch: OutputWatch,
+    keeper: RecordKeeper,
 }
 
 impl Record {
     /// No record.
     pub fn none() -> Self {
-        Record {
-            lines: None,
-            file: None,
-            length: 0,
-            watch: OutputWatch::default(),
-        }
+        Record::of(LineOutput::closed(), 0)
     }
 
     // Lines behind so many bytes of a file.
-    pub(crate) fn of(lines: BoundedOutput<File>, file: File, length: u64) -> Self {
+    pub(crate) fn of(lines: BoundedOutput<File>, length: u64) -> Self {
         Record {
-            lines: Some(lines),
-            file: Some(file),
+            lines,
             length,
-            watch: OutputWatch::default(),
+            keeper: RecordKeeper::new(),
         }
     }
 
-    /// Keeps a line, or drops it. Where the record is late, is whole again, or cannot be written
-    /// any more, that is told.
+    /// Keeps a line as [`RecordKeeper::keep`] does.
     pub fn keep(&mut self, line: &[u8], messages: &mut Messages) {
-        let Some(lines) = &mut self.lines else {
-            return;
-        };
-        lines.put(line);
-        self.tell_state(messages);
+        let mut outputs = NightRecord::of(&mut self.lines, self.length, messages);
+        self.keeper.keep(&mut outputs, line);
     }
 
-    /// Keeps a line before the night begins: none is dropped as long as they are taken, and so that
-    /// may take time.
+    /// Keeps a line before the night begins, as [`RecordKeeper::copy`] does.
     pub fn copy(&mut self, line: &[u8], messages: &mut Messages) {
-        let Some(lines) = &mut self.lines else {
-            return;
-        };
-        lines.put(line);
-        if lines.is_late() {
-            lines.finish();
-        }
-        self.tell_state(messages);
+        let mut outputs = NightRecord::of(&mut self.lines, self.length, messages);
+        self.keeper.copy(&mut outputs, line);
     }
 
     /// Hands on what waits, at the end of the night, and waits for a writer.
     pub fn finish(&mut self, rt: &HostRuntime, messages: &mut Messages) {
-        if let Some(lines) = &mut self.lines {
-            lines.finish();
-        }
-        self.tell_state(messages);
-        let left = wait_for_writers(rt, self);
-        if left > 0 {
-            messages.tell(record_owed_line(left).as_str().as_bytes());
-        }
-    }
-
-    fn tell_state(&mut self, messages: &mut Messages) {
-        let Some(lines) = &self.lines else {
-            return;
-        };
-        let Some(notice) = self.watch.look(lines.look()) else {
-            return;
-        };
-        if notice == OutputNotice::Failed {
-            self.lines = None;
-        }
-        messages.tell(notice.record_line().as_bytes());
+        let mut outputs = NightRecord::of(&mut self.lines, self.length, messages);
+        self.keeper.finish(&mut outputs, rt);
     }
 }
 
-impl PipedOutput for Record {
-    fn unwritten_bytes(&self, rt: &HostRuntime) -> u64 {
-        let Some(lines) = &self.lines else {
-            return 0;
-        };
-        owed_bytes(self.length, lines.piped_bytes(), lines.written_file(rt))
+// The lines of a record, and where it is told how that is. They do not tell what was done.
+#[derive(Drop)]
+struct NightRecord<'a> {
+    lines: &'a mut BoundedOutput<File>,
+    length: u64,
+    messages: &'a mut Messages,
+}
+
+impl<'a> NightRecord<'a> {
+    fn of(lines: &'a mut BoundedOutput<File>, length: u64, messages: &'a mut Messages) -> Self {
+        NightRecord {
+            lines,
+            length,
+            messages,
+        }
+    }
+}
+
+impl Writers for NightRecord<'_> {
+    type System = HostRuntime;
+
+    ghost tells = { λ _. ⊥ };
+
+    ghost deeds = { λ _. [] };
+
+    fn owed_bytes(&mut self, rt: &HostRuntime) -> u64 {
+        self.lines.owed_bytes(self.length, rt)
+    }
+
+    fn wait_turn(&mut self, rt: &HostRuntime) {
+        PolledWay::<File>::wait_turn(rt);
+    }
+}
+
+impl RecordOutputs for NightRecord<'_> {
+    fn put_line(&mut self, line: &[u8]) {
+        self.lines.put(line);
+    }
+
+    fn are_lines_late(&mut self) -> bool {
+        self.lines.is_late()
+    }
+
+    fn finish_lines(&mut self) {
+        self.lines.finish();
+    }
+
+    fn look_at_lines(&mut self) -> OutputLook {
+        self.lines.look()
+    }
+
+    fn tell(&mut self, line: &[u8]) {
+        self.messages.put(line);
     }
 }

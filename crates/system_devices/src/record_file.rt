@@ -1,6 +1,6 @@
 ghost use Rattle.std.specs.Prelude.{[]};
 
-use crate::bounded_output::{BoundedOutput, Names};
+use crate::bounded_output::{Names, open_output};
 use crate::fault::DeviceFault;
 use crate::lock_holder::holder;
 use crate::record::Record;
@@ -199,11 +199,8 @@ impl RecordFile {
         let Some(file) = self.file else {
             return Err(RecordFault::from(NOT_OPEN));
         };
-        let locked = file.try_clone().map_err(of_system)?;
-        match BoundedOutput::new(rt, file, NAMES) {
-            Ok(lines) => Ok(Record::of(lines, locked, length as u64)),
-            Err(fault) => Err(RecordFault::Way(fault)),
-        }
+        let lines = open_output(rt, file, NAMES).map_err(RecordFault::Way)?;
+        Ok(Record::of(lines, length as u64))
     }
 }
 

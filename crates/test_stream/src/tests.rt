@@ -12,6 +12,7 @@ mod packet;
 mod queue;
 mod receiver;
 mod record_head;
+mod record_keeper;
 mod replies;
 mod routes;
 mod screen;

@@ -1,18 +1,18 @@
 ghost use Rattle.std.specs.Prelude.{◌≡◌, false, [], ◌∷◌, ◌++◌, map};
-ghost use Rattle.line_queue.specs.KeptDeeds.{deed_of};
-ghost use Rattle.line_queue.specs.ScreenDeeds.ScreenDeed.{FinishMessages, FinishReplies};
-ghost use Rattle.line_queue.specs.ScreenDeeds.ScreenDeed.{HandOnMessages, HandOnReplies};
-ghost use Rattle.line_queue.specs.ScreenDeeds.ScreenDeed.{LookAtReplies, Message, Reply};
+ghost use Rattle.line_queue.specs.KeptDeeds.{SameAnswers, deed_of};
+ghost use Rattle.line_queue.specs.OutputDeeds.OutputDeed.{FinishMessages, FinishReplies};
+ghost use Rattle.line_queue.specs.OutputDeeds.OutputDeed.{HandOnMessages, HandOnReplies};
+ghost use Rattle.line_queue.specs.OutputDeeds.OutputDeed.{LookAtReplies, Message, Reply};
 
 use crate::screen::ScreenOutputs;
 use crate::watch::OutputLook;
 use arrayvec::ArrayVec;
 use std::alloc::Global;
 
-/// A line of a screen over memory.
+/// A line of an output over memory.
 pub type ScreenLine = ArrayVec<u8, 256>;
 
-/// What was done with the outputs of a screen over memory.
+/// What was done with the outputs and the record of a night over memory.
 #[derive(Debug, Drop)]
 pub enum MemoryDeed {
     Reply(ScreenLine),
@@ -22,14 +22,24 @@ pub enum MemoryDeed {
     Message(ScreenLine),
     HandOnMessages,
     FinishMessages,
+    Line(ScreenLine),
+    AskIfLate(bool),
+    FinishLines,
+    LookAtLines(OutputLook),
+    Owed(u64),
+    WaitTurn,
 }
 
-/// The outputs of a screen over memory. They stop telling where memory for a deed is refused, and
-/// where a line is longer than 256 bytes.
+/// The outputs and the record of a night over memory. They stop telling where memory for a deed is
+/// refused, and where a line is longer than 256 bytes.
 #[derive(Debug, Drop)]
 pub struct MemoryOutputs {
-    /// How the output of replies is.
-    pub replies: OutputLook,
+    /// How the output of replies is, and that of the record.
+    pub look: OutputLook,
+    /// How many bytes the writers of files owe,
+    pub owed: u64,
+    /// and how many of these they write in a millisecond.
+    pub step: u64,
     /// What was done, the first first.
     pub deeds: Vec<MemoryDeed>,
     /// A line was too long, or memory was refused: deeds are missing.
@@ -37,22 +47,25 @@ pub struct MemoryOutputs {
 }
 
 impl MemoryOutputs {
-    /// Outputs with which nothing was done yet.
-    pub fn new(alloc: Global, replies: OutputLook) -> Self
-        ensures replies { result.replies ≡ replies }
+    /// Outputs with which nothing was done yet. Their writers owe so many bytes, and write `step` of
+    /// them in a millisecond.
+    pub fn new(alloc: Global, look: OutputLook, owed: u64, step: u64) -> Self
+        ensures answers { (result.look ≡ look) × (result.owed ≡ owed) × (result.step ≡ step) }
         ensures deeds { result.deeds.items ≡ [] }
         ensures tells { result.is_lost ≡ false }
     {
         MemoryOutputs {
-            replies,
+            look,
+            owed,
+            step,
             deeds: Vec::new(alloc),
             is_lost: false,
         }
     }
 
     #[tactic(auto, using(std::proofs::lemmas::List::map_push))]
-    fn keep(&mut self, deed: MemoryDeed)
-        ensures same { self.new.replies ≡ self.old.replies }
+    pub(super) fn keep(&mut self, deed: MemoryDeed)
+        ensures same { SameAnswers self.old self.new }
         ensures told { self.new.is_lost ≡ false → self.old.is_lost ≡ false }
         ensures deed { self.new.is_lost ≡ false → map deed_of self.new.deeds.items
             ≡ map deed_of self.old.deeds.items ++ deed_of deed ∷ [] }
@@ -63,11 +76,10 @@ impl MemoryOutputs {
     }
 
     // The same line, if it is short enough.
-    fn copy(&mut self, line: &[u8]) -> ScreenLine
+    pub(super) fn copy(&mut self, line: &[u8]) -> ScreenLine
         ensures told { self.new.is_lost ≡ false → self.old.is_lost ≡ false }
         ensures line { self.new.is_lost ≡ false → result.items ≡ line.now }
-        ensures same { (self.new.replies ≡ self.old.replies)
-            × (self.new.deeds ≡ self.old.deeds) }
+        ensures same { SameAnswers self.old self.new × (self.new.deeds ≡ self.old.deeds) }
     {
         let mut copied = ScreenLine::new();
         if copied.try_extend_from_slice(line).is_err() {
@@ -78,12 +90,8 @@ impl MemoryOutputs {
 }
 
 impl ScreenOutputs for MemoryOutputs {
-    ghost tells = { λ m. m.is_lost ≡ false };
-
-    ghost deeds = { λ m. map deed_of m.deeds.items };
-
     fn take_reply(&mut self, line: &[u8])
-        ensures same { self.new.replies ≡ self.old.replies }
+        ensures same { SameAnswers self.old self.new }
         ensures told { self.new.is_lost ≡ false → self.old.is_lost ≡ false }
         ensures deed { self.new.is_lost ≡ false → map deed_of self.new.deeds.items
             ≡ map deed_of self.old.deeds.items ++ Reply line.now ∷ [] }
@@ -93,7 +101,7 @@ impl ScreenOutputs for MemoryOutputs {
     }
 
     fn hand_on_replies(&mut self)
-        ensures same { self.new.replies ≡ self.old.replies }
+        ensures same { SameAnswers self.old self.new }
         ensures told { self.new.is_lost ≡ false → self.old.is_lost ≡ false }
         ensures deed { self.new.is_lost ≡ false → map deed_of self.new.deeds.items
             ≡ map deed_of self.old.deeds.items ++ HandOnReplies ∷ [] }
@@ -102,7 +110,7 @@ impl ScreenOutputs for MemoryOutputs {
     }
 
     fn finish_replies(&mut self)
-        ensures same { self.new.replies ≡ self.old.replies }
+        ensures same { SameAnswers self.old self.new }
         ensures told { self.new.is_lost ≡ false → self.old.is_lost ≡ false }
         ensures deed { self.new.is_lost ≡ false → map deed_of self.new.deeds.items
             ≡ map deed_of self.old.deeds.items ++ FinishReplies ∷ [] }
@@ -111,19 +119,19 @@ impl ScreenOutputs for MemoryOutputs {
     }
 
     fn look_at_replies(&mut self) -> OutputLook
-        ensures answer { result ≡ self.old.replies }
-        ensures same { self.new.replies ≡ self.old.replies }
+        ensures answer { result ≡ self.old.look }
+        ensures same { SameAnswers self.old self.new }
         ensures told { self.new.is_lost ≡ false → self.old.is_lost ≡ false }
         ensures deed { self.new.is_lost ≡ false → map deed_of self.new.deeds.items
             ≡ map deed_of self.old.deeds.items ++ LookAtReplies result ∷ [] }
     {
-        let look = self.replies;
+        let look = self.look;
         self.keep(MemoryDeed::LookAtReplies(look));
         look
     }
 
     fn tell(&mut self, line: &[u8])
-        ensures same { self.new.replies ≡ self.old.replies }
+        ensures same { SameAnswers self.old self.new }
         ensures told { self.new.is_lost ≡ false → self.old.is_lost ≡ false }
         ensures deed { self.new.is_lost ≡ false → map deed_of self.new.deeds.items
             ≡ map deed_of self.old.deeds.items ++ Message line.now ∷ [] }
@@ -133,7 +141,7 @@ impl ScreenOutputs for MemoryOutputs {
     }
 
     fn hand_on_messages(&mut self)
-        ensures same { self.new.replies ≡ self.old.replies }
+        ensures same { SameAnswers self.old self.new }
         ensures told { self.new.is_lost ≡ false → self.old.is_lost ≡ false }
         ensures deed { self.new.is_lost ≡ false → map deed_of self.new.deeds.items
             ≡ map deed_of self.old.deeds.items ++ HandOnMessages ∷ [] }
@@ -142,7 +150,7 @@ impl ScreenOutputs for MemoryOutputs {
     }
 
     fn finish_messages(&mut self)
-        ensures same { self.new.replies ≡ self.old.replies }
+        ensures same { SameAnswers self.old self.new }
         ensures told { self.new.is_lost ≡ false → self.old.is_lost ≡ false }
         ensures deed { self.new.is_lost ≡ false → map deed_of self.new.deeds.items
             ≡ map deed_of self.old.deeds.items ++ FinishMessages ∷ [] }

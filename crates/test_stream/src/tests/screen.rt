@@ -8,7 +8,6 @@ enum Call {
     Tell,
     HandOn,
     Finish,
-    Owed(u64),
 }
 
 // What is called, and what is done with the outputs then.
@@ -19,10 +18,41 @@ fn word(deed: &MemoryDeed) -> &'static str {
         MemoryDeed::Reply(_) => "reply",
         MemoryDeed::HandOnReplies => "replies",
         MemoryDeed::FinishReplies => "last replies",
-        MemoryDeed::LookAtReplies(_) => "look",
+        MemoryDeed::LookAtReplies(_) | MemoryDeed::LookAtLines(_) => "look",
         MemoryDeed::Message(_) => "message",
         MemoryDeed::HandOnMessages => "messages",
         MemoryDeed::FinishMessages => "last messages",
+        MemoryDeed::Line(_) => "line",
+        MemoryDeed::AskIfLate(_) => "late?",
+        MemoryDeed::FinishLines => "last lines",
+        MemoryDeed::Owed(_) => "owed?",
+        MemoryDeed::WaitTurn => "wait",
+    }
+}
+
+/// Whether these are the deeds, and all of them.
+pub fn are_deeds(outputs: &MemoryOutputs, words: &[&str]) -> bool {
+    let deeds = outputs.deeds.as_slice();
+    !outputs.is_lost
+        && deeds.len() == words.len()
+        && deeds
+            .iter()
+            .zip(words)
+            .all(|(deed, name)| word(deed) == *name)
+}
+
+/// How many milliseconds the writers were waited for.
+pub fn waits(outputs: &MemoryOutputs) -> usize {
+    let deeds = outputs.deeds.as_slice().iter();
+    deeds.filter(|deed| word(deed) == "wait").count()
+}
+
+/// An output that is not late.
+pub fn look(has_failed: bool) -> OutputLook {
+    OutputLook {
+        has_failed,
+        is_late: false,
+        gaps: 0,
     }
 }
 
@@ -31,29 +61,17 @@ fn make_call(screen: &mut Screen<MemoryOutputs>, call: &Call) {
         Call::Show => screen.show(b"1 go\n"),
         Call::Tell => screen.tell(b"keys ignored\n"),
         Call::HandOn => screen.hand_on(),
-        Call::Finish => screen.finish(),
-        Call::Owed(left) => screen.tell_owed(left),
+        Call::Finish => screen.finish(&()),
     }
 }
 
 fn holds(alloc: Global, has_failed: bool, row: &Row) -> bool {
     let (calls, words) = *row;
-    let replies = OutputLook {
-        has_failed,
-        is_late: false,
-        gaps: 0,
-    };
-    let mut screen = Screen::new(MemoryOutputs::new(alloc, replies));
+    let mut screen = Screen::new(MemoryOutputs::new(alloc, look(has_failed), 2, 2));
     for each in calls {
         make_call(&mut screen, each);
     }
-    let deeds = screen.outputs.deeds.as_slice();
-    !screen.outputs.is_lost
-        && deeds.len() == words.len()
-        && deeds
-            .iter()
-            .zip(words)
-            .all(|(deed, name)| word(deed) == *name)
+    are_deeds(&screen.outputs, words)
 }
 
 fn hold_each(rt: &impl Abort, alloc: Global, has_failed: bool, rows: &[Row]) {
@@ -71,8 +89,15 @@ fn replies_are_handed_on_before_messages(rt: HostRuntime) {
         ),
         (&[Call::HandOn], &["replies", "look", "messages"]),
         (
-            &[Call::Finish, Call::Owed(0)],
-            &["last replies", "look", "last messages"],
+            &[Call::Finish],
+            &[
+                "last replies",
+                "look",
+                "last messages",
+                "owed?",
+                "wait",
+                "owed?",
+            ],
         ),
     ];
     hold_each(&rt, rt.alloc(), false, rows);
@@ -88,16 +113,26 @@ fn replies_that_failed_are_told_of_once(rt: HostRuntime) {
             ],
         ),
         (
-            &[Call::Finish, Call::Owed(3)],
+            &[Call::Finish],
             &[
                 "last replies",
                 "look",
                 "message",
                 "last messages",
-                "message",
-                "last messages",
+                "owed?",
+                "wait",
+                "owed?",
             ],
         ),
     ];
     hold_each(&rt, rt.alloc(), true, rows);
+}
+
+#[test]
+fn what_is_still_owed_is_told(rt: HostRuntime) {
+    let mut screen = Screen::new(MemoryOutputs::new(rt.alloc(), look(false), 3, 0));
+    screen.finish(&());
+    assert!(rt; waits(&screen.outputs) == 2000);
+    let last = screen.outputs.deeds.as_slice().iter().rev().nth(1);
+    assert!(rt; last.is_some_and(|deed| word(deed) == "message"));
 }

@@ -1,20 +1,22 @@
-use line_queue::{MemoryWriters, wait_for_writers};
+use super::screen::{look, waits};
+use line_queue::{MemoryOutputs, wait_for_writers};
+use std::alloc::Global;
 use std::process::Abort;
 
 // Writers that owe so many bytes and write so many in a millisecond; how many they still owe in the
 // end, and for how many milliseconds they were waited for.
-type Row = (u64, u64, u64, u64);
+type Row = (u64, u64, u64, usize);
 
-fn holds(row: &Row) -> bool {
+fn holds(alloc: Global, row: &Row) -> bool {
     let (owed, step, left, waited) = *row;
-    let mut writers = MemoryWriters::new(owed, step);
-    let is_left = wait_for_writers(&mut writers) == left;
-    !writers.is_lost && is_left && writers.waited == waited
+    let mut writers = MemoryOutputs::new(alloc, look(false), owed, step);
+    let is_left = wait_for_writers(&mut writers, &()) == left;
+    !writers.is_lost && is_left && waits(&writers) == waited
 }
 
-fn hold_each(rt: &impl Abort, rows: &[Row]) {
+fn hold_each(rt: &impl Abort, alloc: Global, rows: &[Row]) {
     for row in rows {
-        assert!(rt; holds(row));
+        assert!(rt; holds(alloc, row));
     }
 }
 
@@ -28,5 +30,5 @@ fn writers_are_waited_for(rt: HostRuntime) {
         (2001, 1, 1, 2000),
         (u64::MAX, 0, u64::MAX, 2000),
     ];
-    hold_each(&rt, rows);
+    hold_each(&rt, rt.alloc(), rows);
 }
