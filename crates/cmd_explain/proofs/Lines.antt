@@ -7,7 +7,7 @@ use Rattle.cmd_explain.proofs.Terms.{words_of, Keyword, Reading, Record, keyword
 use Rattle.cmd_explain.proofs.Terms.{record_opened, line_reading, statement_in, is_skipped, Words}
 use Rattle.cmd_explain.proofs.Terms.{owner_below, owns, said_under, statement_below, Heading}
 use Rattle.cmd_explain.proofs.Terms.{heading_below, heading_by, heading_of, is_clear, is_maker}
-use Rattle.cmd_explain.proofs.Terms.{keyword_in, operands, owner_of, reason_of, skipped_lines}
+use Rattle.cmd_explain.proofs.Terms.{keyword_in, operands, owner_of, reason_of}
 use Rattle.cmd_explain.proofs.Terms.{skipped_line_below, skipped_line, words_in}
 use Rattle.cmd_explain.specs.declared.heading.Heading.TheVariants as heading
 

@@ -1,7 +1,7 @@
 -- The notes on the lines of a text, one line after the other.
 use Rattle.cmd_explain.proofs.Terms.{◌≡◌, ◌∙◌, ℕ, ◌+◌, ◌++◌, ◌≤◌, true, false, cond, List, [], ◌∷◌}
-use Rattle.cmd_explain.proofs.Terms.{length, reverse, take, refl, sym, ap, subst, Option, Some}
-use Rattle.cmd_explain.proofs.Terms.{None, arith, Vec, Global, reverse_aux, lines_of, numbered_from}
+use Rattle.cmd_explain.proofs.Terms.{length, refl, sym, ap, Option, Some}
+use Rattle.cmd_explain.proofs.Terms.{None, arith, Vec, Global}
 use Rattle.cmd_explain.proofs.Terms.{words_of, Tables, Keyword, Reading, Record, Cue, Group, Sub}
 use Rattle.cmd_explain.proofs.Terms.{Statement, Table, Cues, Groups, Subs, keyword_of, may_own}
 use Rattle.cmd_explain.proofs.Terms.{desk_limits, line_reading, Words, owns, Part, Heading}

@@ -1,5 +1,5 @@
 use network_tables::{Card, CardName, CardRefusal, CardState, Cards, Route};
-use packet_paths::memory::MemoryCards;
+use packet_paths::memory::{CardAnswers, MemoryCards};
 use packet_paths::{card_of, hidden_cards, named_source};
 use std::alloc::Global;
 use std::process::Abort;
@@ -26,15 +26,25 @@ fn cards() -> Cards {
     cards
 }
 
+// Cards in this state that tell no address to send from.
+fn system(alloc: Global, state: CardState) -> MemoryCards {
+    let answers = CardAnswers {
+        state,
+        by_card: Cards::new(),
+        source: None,
+    };
+    MemoryCards::new(alloc, answers)
+}
+
 // A card that is named, and how each is; the address that packets come from, or why not, and how
 // many questions are asked.
 type Named = (&'static str, CardState, Result<[u8; 4], CardRefusal>, usize);
 
 fn is_named(alloc: Global, row: &Named) -> bool {
     let (named, state, expected, times) = *row;
-    let mut system = MemoryCards::new(alloc, state);
+    let mut system = system(alloc, state);
     let source = named_source(&mut system, named, &cards());
-    !system.full && source == expected && system.questions.len() == times
+    !system.full && source == expected && system.steps.len() == times
 }
 
 #[test]
@@ -68,10 +78,10 @@ fn each_card_with_a_name_is_asked(rt: HostRuntime) {
     for (state, names, count) in rows {
         let mut cards = cards();
         cards.add_other(name("eth1"));
-        let mut system = MemoryCards::new(rt.alloc(), *state);
+        let mut system = system(rt.alloc(), *state);
         let hidden = hidden_cards(&mut system, cards.as_slice());
         assert!(rt; hidden.names.as_str() == *names && hidden.count == *count);
-        assert!(rt; !system.full && system.questions.len() == 3);
+        assert!(rt; !system.full && system.steps.len() == 3);
     }
 }
 
@@ -95,9 +105,9 @@ fn route(card: &str) -> Route {
 
 fn is_held(alloc: Global, row: &Held) -> bool {
     let (count, by, source, expected, times) = *row;
-    let mut system = MemoryCards::new(alloc, CardState::Up);
-    system.by_card.add(Some(name(by)), Some(OWN));
-    system.source = Some(source);
+    let mut system = system(alloc, CardState::Up);
+    system.answers.by_card.add(Some(name(by)), Some(OWN));
+    system.answers.source = Some(source);
     let networks = networks();
     let card = card_of(&mut system, OWN, &[OWN], &networks[..count.min(3)]);
     let is_card = match (card, expected) {
@@ -105,7 +115,7 @@ fn is_held(alloc: Global, row: &Held) -> bool {
         (None, None) => true,
         _ => false,
     };
-    !system.full && is_card && system.questions.len() == times
+    !system.full && is_card && system.steps.len() == times
 }
 
 #[test]

@@ -1,7 +1,8 @@
 use link_notices::CardAddress;
 use network_tables::CardName;
 use packet_paths::Path;
-use packet_paths::memory::MemorySystem;
+use packet_paths::memory::{MemorySystem, RouteAnswers};
+use std::alloc::Global;
 use std::process::Abort;
 
 const HOST: [u8; 4] = [10, 0, 0, 9];
@@ -47,6 +48,17 @@ fn name(text: &str) -> CardName {
     CardName::from(text).unwrap_or_default()
 }
 
+// A system without a clock, from which no route leads.
+fn system(alloc: Global) -> MemorySystem {
+    let answers = RouteAnswers {
+        time: None,
+        source: None,
+        card: name("eth0"),
+        neighbor: None,
+    };
+    MemorySystem::new(alloc, answers)
+}
+
 fn own() -> CardAddress {
     CardAddress {
         address: OWN,
@@ -67,12 +79,12 @@ fn leads(path: &Path, way: Way) -> bool {
 // Whether a look before a packet is as the row has it.
 fn holds(system: &mut MemorySystem, path: &mut Path, row: &Row) -> bool {
     let (before, times, way) = *row;
-    system.time = before.time;
-    system.source = before.source;
-    system.card = name(before.card);
-    let asked = system.questions.len();
+    system.answers.time = before.time;
+    system.answers.source = before.source;
+    system.answers.card = name(before.card);
+    let asked = system.steps.len();
     path.look_before(system, Some(own()), false);
-    let all = system.questions.len();
+    let all = system.steps.len();
     !system.full && all.saturating_sub(asked) == times && leads(path, way)
 }
 
@@ -97,16 +109,16 @@ fn a_route_is_looked_for_before_packets(rt: HostRuntime) {
         // Another address of the same card.
         (known(4_000_000, [10, 0, 0, 3], "eth0"), 3, Way::ByItsCard),
     ];
-    let mut system = MemorySystem::new(rt.alloc(), name("eth0"));
+    let mut system = system(rt.alloc());
     hold_each(&rt, &mut system, rows);
 }
 
 #[test]
 fn multicast_and_any_route_need_no_look(rt: HostRuntime) {
-    let mut system = MemorySystem::new(rt.alloc(), name("eth0"));
+    let mut system = system(rt.alloc());
     let mut path = Path::new(HOST, Some(0), true);
     path.look_before(&mut system, Some(own()), true);
     let mut group = Path::new([239, 255, 0, 1], Some(0), true);
     group.look_before(&mut system, Some(own()), false);
-    assert!(rt; system.questions.is_empty() && !system.full);
+    assert!(rt; system.steps.is_empty() && !system.full);
 }
