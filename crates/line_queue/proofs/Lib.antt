@@ -1,4 +1,5 @@
 pub mod Accounting
+mod Owing
 pub mod Recorded
 mod Screening
 pub mod Watching

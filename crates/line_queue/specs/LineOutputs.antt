@@ -7,6 +7,7 @@ use Rattle.line_queue.specs.Pipes.{PipeTape}
 use Rattle.line_queue.specs.Stands.{TakesMore, bytes_taken, failure_in, is_late, notice_in}
 use Rattle.line_queue.specs.Watches.{look_at}
 use Rattle.line_queue.specs.declared.owed.GivenBytes.{GivenBytes}
+use Rattle.line_queue.specs.declared.owed.WrittenFile.{WrittenFile}
 use Rattle.line_queue.specs.declared.owed.WrittenFiles.{WrittenFiles}
 use Rattle.line_queue.specs.declared.queue.LineQueue.{LineQueue}
 use Rattle.line_queue.specs.declared.queued.QueuedOutputs.{QueuedOutputs}
@@ -46,6 +47,12 @@ look_in (Some queue) = look_at queue
 abbrev pub is_output_late : {P : Type 0} → Option (LineQueue P) → Bool
 is_output_late None = false
 is_output_late (Some queue) = is_late queue
+
+-- a look at its file may answer this: a closed one has no file
+abbrev pub Shows : {P : Type 0} → (P → Option WrittenFile → Type 0) → Option (LineQueue P)
+    → Option WrittenFile → Type 0
+Shows shows None file = file ≡ None
+Shows shows (Some queue) file = shows queue.pipe file
 
 -- how many bytes a writer of its file was given
 abbrev pub piped_in : {P : Type 0} → Option (LineQueue P) → ℕ

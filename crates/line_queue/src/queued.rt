@@ -1,8 +1,9 @@
-ghost use Rattle.std.specs.Prelude.{◌≡◌, ◌∷◌, []};
+ghost use Rattle.std.specs.Prelude.{◌≡◌, ◌∷◌, [], Option};
 ghost use Rattle.line_queue.specs.Entries.{capped_count};
-ghost use Rattle.line_queue.specs.LineOutputs.{Changes, HandsOn, Puts, Takes, files_before};
-ghost use Rattle.line_queue.specs.LineOutputs.{given_in, look_in};
+ghost use Rattle.line_queue.specs.LineOutputs.{Changes, HandsOn, Puts, Shows, Takes};
+ghost use Rattle.line_queue.specs.LineOutputs.{files_before, given_in, look_in};
 ghost use Rattle.line_queue.specs.Owed.{owed_by_outputs};
+ghost use Rattle.line_queue.specs.declared.owed.WrittenFile.{WrittenFile as FileOf};
 ghost use Rattle.line_queue.specs.declared.owed.WrittenFiles.{WrittenFiles as FilesOf};
 
 use crate::owed::{GivenBytes, WrittenFile, WrittenFiles, owed_by_outputs};
@@ -14,8 +15,12 @@ pub trait FilePipe: Pipe {
     /// What the file is looked at with, and the time.
     type System;
 
+    /// A look at the file may answer this.
+    ghost shows: { Self → Option FileOf → Type 0 };
+
     /// The file, if another process writes it.
-    fn written_file(&self, system: &Self::System) -> Option<WrittenFile>;
+    fn written_file(&self, system: &Self::System) -> Option<WrittenFile>
+        ensures { shows self.now result };
 
     /// Waits a millisecond.
     fn wait_turn(system: &Self::System);
@@ -53,7 +58,8 @@ impl<R: FilePipe, M: FilePipe<System = R::System>> Writers for QueuedOutputs<R, 
 
     fn owed_bytes(&mut self, system: &R::System) -> u64
         ensures same { self.new ≡ self.old }
-        ensures owed { (now : FilesOf) × (result
+        ensures owed { (now : FilesOf) × Shows R.shows self.old.replies.queue now.output
+            × Shows M.shows self.old.messages.queue now.error × (result
             ≡ capped_count (owed_by_outputs (files_before self.old) (given_in self.old) now)) }
     {
         let given = GivenBytes {

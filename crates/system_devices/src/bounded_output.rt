@@ -1,4 +1,4 @@
-ghost use Rattle.std.specs.Prelude.{[], false, None};
+ghost use Rattle.std.specs.Prelude.{[], ⊤, false, None};
 
 use crate::descriptor_poll::DescriptorPoll;
 use crate::fault::DeviceFault;
@@ -64,6 +64,8 @@ impl<W: Write> Pipe for PolledWay<W> {
 
 impl<W: Write + AsRawFd> FilePipe for PolledWay<W> {
     type System = HostRuntime;
+
+    ghost shows = { λ _ _. ⊤ };
 
     fn written_file(&self, rt: &HostRuntime) -> Option<WrittenFile> {
         self.way.written_file(rt)
