@@ -122,17 +122,18 @@ choosing cid user (step.Look path found ∷ steps) result h =
     naming cid user (is_own found user) path found steps result h.1
 choosing cid user steps result h = absurd h
 
-asking : (cid : List ℕ) (steps : List CidLockStep) (result : Result Bool LockFault)
-    → IsCidLock cid steps result → Facts cid 0 result steps
-asking cid (step.User (Err fault) ∷ steps) result h = rw h.0 (tt, failed fault result h.1, tt)
-asking cid (step.User (Ok user) ∷ steps) result h =
+asking : (cid : List ℕ) (before : ℕ) (steps : List CidLockStep)
+    (result : Result Bool LockFault) → IsCidLock cid steps result → Facts cid before result steps
+asking cid before (step.User (Err fault) ∷ steps) result h =
+    rw h.0 (tt, failed fault result h.1, tt)
+asking cid before (step.User (Ok user) ∷ steps) result h =
     let rest = choosing cid user steps result h in
     (rest.0, rest.1, behind (step.User (Ok user)) steps refl rest.2)
-asking cid steps result h = absurd h
+asking cid before steps result h = absurd h
 
 pub cid_lock_order : CidLockLaw
 cid_lock_order = record {
-  in_own_folder = λ cid steps result h. (asking cid steps result h).0;
-  answered = λ cid steps result h. (asking cid steps result h).1;
-  only_last_fails = λ cid steps result h. (asking cid steps result h).2;
+  in_own_folder = λ cid before steps result h. (asking cid before steps result h).0;
+  answered = λ cid steps result h. (asking cid 0 steps result h).1;
+  only_last_fails = λ cid steps result h. (asking cid 0 steps result h).2;
 }

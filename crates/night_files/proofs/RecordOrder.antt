@@ -5,7 +5,7 @@ use Rattle.std.specs.Prelude.{⊤, not, ◌||◌, Option, Some, None, Result, Ok
 use Rattle.std.specs.List.{list_any}
 use Rattle.night_files.specs.RecordLaws.{AreReadBehindLook, IsOpenedOnce, OnlyLastFails}
 use Rattle.night_files.specs.RecordLaws.{RecordOpeningLaw, TakeOverLaw, asks_for_lock, fails}
-use Rattle.night_files.specs.RecordLaws.{is_safe, opens, reads}
+use Rattle.night_files.specs.RecordLaws.{is_safe, opens_or_removes, reads}
 use Rattle.night_files.specs.RecordOpenings.{IsFileReading, IsFirstLook, IsLockAnswer}
 use Rattle.night_files.specs.RecordOpenings.{IsLockIfAny, IsLocking, IsRecordOpening}
 use Rattle.night_files.specs.RecordOpenings.{IsSecondLook, IsTakeOver, UnlessRefused}
@@ -31,7 +31,7 @@ IsQuiet Watch steps = ⊤
 -- what holds of the steps behind the opening
 abbrev Facts : RecordUse → Bool → Bool → List RecordStep → Type 0
 Facts aim is_locked is_found steps = AreReadBehindLook is_locked is_found steps
-    × (list_any opens steps ≡ false) × OnlyLastFails steps × IsQuiet aim steps
+    × (list_any opens_or_removes steps ≡ false) × OnlyLastFails steps × IsQuiet aim steps
 
 quiet_end : (aim : RecordUse) → IsQuiet aim []
 quiet_end Begin = refl

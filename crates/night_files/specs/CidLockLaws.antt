@@ -12,7 +12,7 @@ use Rattle.night_files.specs.declared.lock_request.FileLock.{FileLock}
 use Rattle.night_files.specs.declared.lock_request.FileLock.TheVariants.{Missing, Ours, Theirs}
 
 -- the only file that is opened is that of the CID's lock, in the folder at which the step before
--- looked, and which this user was found to own
+-- looked, and which was found to be that of the user whom the system named last
 abbrev pub AreInOwnFolder : List ℕ → ℕ → List CidLockStep → Type 0
 AreInOwnFolder cid user [] = ⊤
 AreInOwnFolder cid user (step.User (Ok found) ∷ steps) = AreInOwnFolder cid found steps
@@ -54,8 +54,9 @@ OnlyLastFails steps = ⊤
 -- CID, in a folder that was just found to be the user's own. The answer is that of this file's
 -- lock: it is held only where another process has that. Nothing is done behind a step that failed
 pub record CidLockLaw : Type 0 where
-  pub in_own_folder : (cid : List ℕ) (steps : List CidLockStep) (result : Result Bool LockFault)
-      → IsCidLock cid steps result → AreInOwnFolder cid 0 steps
+  pub in_own_folder : (cid : List ℕ) (before : ℕ) (steps : List CidLockStep)
+      (result : Result Bool LockFault) → IsCidLock cid steps result
+      → AreInOwnFolder cid before steps
   pub answered : (cid : List ℕ) (steps : List CidLockStep) (result : Result Bool LockFault)
       → IsCidLock cid steps result → IsAnswered result steps
   pub only_last_fails : (cid : List ℕ) (steps : List CidLockStep)

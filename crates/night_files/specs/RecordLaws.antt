@@ -24,10 +24,11 @@ asks_for_lock (step.Lock lock) = true
 asks_for_lock (step.LockAtOnce lock) = true
 asks_for_lock other = false
 
--- it is opened
-abbrev pub opens : RecordStep → Bool
-opens (step.Open access answer) = true
-opens other = false
+-- it is opened, or removed
+abbrev pub opens_or_removes : RecordStep → Bool
+opens_or_removes (step.Open access answer) = true
+opens_or_removes step.Remove = true
+opens_or_removes other = false
 
 -- another process does not have the lock
 abbrev pub is_free : FileLock → Bool
@@ -66,10 +67,11 @@ AreReadBehindLook is_locked is_found (step.Read answer ∷ steps) =
     (is_found ≡ true) × AreReadBehindLook is_locked is_found steps
 AreReadBehindLook is_locked is_found (other ∷ steps) = AreReadBehindLook is_locked is_found steps
 
--- it is looked where the name leads; the file is opened as its purpose has it then, and not again
+-- it is looked where the name leads; the file is opened as its purpose has it then, and it is
+-- neither opened again nor removed
 abbrev pub IsOpenedOnce : RecordUse → List RecordStep → Type 0
 IsOpenedOnce aim (step.Name is_fifo ∷ step.Open access answer ∷ steps) =
-    (access ≡ access_to aim is_fifo) × (list_any opens steps ≡ false)
+    (access ≡ access_to aim is_fifo) × (list_any opens_or_removes steps ≡ false)
 IsOpenedOnce aim steps = ⊥
 
 -- this program has the lock of the file, or the file is a FIFO or a device, which needs none
@@ -81,8 +83,8 @@ is_safe other = false
 
 -- EVERY OPENING OF A RECORD'S FILE. It is read only behind a look that comes behind its lock. A
 -- night that begins reads nothing; a file that is watched is neither locked nor read. It is opened
--- once. Nothing is done behind a step that failed. The answer that no other night can be kept in it
--- is given only where that is so
+-- once, and not removed. Nothing is done behind a step that failed. The answer that no other night
+-- can be kept in it is given only where that is so
 pub record RecordOpeningLaw : Type 0 where
   pub read_behind_look : (aim : RecordUse) (steps : List RecordStep)
       (result : Result Bool OpeningFault) → IsRecordOpening aim steps result
@@ -102,14 +104,14 @@ pub record RecordOpeningLaw : Type 0 where
       (result : Result Bool OpeningFault) → IsRecordOpening aim steps result
       → result ≡ Ok true → list_any is_safe steps ≡ true
 
--- EVERY TAKE-OVER. The file is read only behind a look that comes behind its lock; it is not opened
--- again; nothing is done behind a step that failed; and the night is taken over only where this
--- program has the lock
+-- EVERY TAKE-OVER. The file is read only behind a look that comes behind its lock; it is neither
+-- opened again nor removed; nothing is done behind a step that failed; and the night is taken over
+-- only where this program has the lock
 pub record TakeOverLaw : Type 0 where
   pub read_behind_look : (steps : List RecordStep) (result : Result Bool OpeningFault)
       → IsTakeOver steps result → AreReadBehindLook false false steps
   pub not_opened : (steps : List RecordStep) (result : Result Bool OpeningFault)
-      → IsTakeOver steps result → list_any opens steps ≡ false
+      → IsTakeOver steps result → list_any opens_or_removes steps ≡ false
   pub only_last_fails : (steps : List RecordStep) (result : Result Bool OpeningFault)
       → IsTakeOver steps result → OnlyLastFails steps
   pub taken_with_lock : (steps : List RecordStep) (result : Result Bool OpeningFault)

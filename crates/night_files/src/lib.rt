@@ -1,6 +1,7 @@
-//! The files of a night: whose a lock is, where the lock of a CID lies, how often a lock is asked
-//! for, which files a record is kept in, and in which order such a file is opened, looked at,
-//! locked and read. Nothing here opens a file: the system does, by the traits.
+//! The files of a night: whose a lock is, where the lock of a CID lies and how it is taken, how
+//! often a lock is asked for, which files a record is kept in, in which order such a file is
+//! opened, looked at, locked and read, and when it is removed. Nothing here opens a file: the
+//! system does, by the traits.
 //!
 //! ```
 //! let answer = ask_for_lock(&mut lock);
