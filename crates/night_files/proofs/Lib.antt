@@ -1,1 +1,3 @@
+pub mod CidLockOrder
 mod LockSearch
+pub mod RecordOrder

@@ -1,5 +1,9 @@
+pub mod CidLockLaws
+pub mod CidLocks
 pub mod LockLists
 pub mod LockPaths
 pub mod LockSteps
-pub mod RecordUses
+pub mod RecordLaws
 pub mod RecordOpenings
+pub mod RecordRemovals
+pub mod RecordUses

@@ -1,5 +1,6 @@
-//! A lock over memory, and the file of a record: they tell their steps.
+//! Locks over memory, and the file of a record: they tell their steps.
 
+mod cid_lock;
 mod record_file;
 
 ghost use Rattle.std.specs.Prelude.{◌≡◌, ◌-◌, false, nat_eq, if◌then◌else◌};
@@ -8,6 +9,7 @@ ghost use Rattle.night_files.specs.declared.lock_request.FileLock.TheVariants.{T
 ghost use Rattle.night_files.specs.declared.lock_request.LockStep.TheVariants.{Ask, Sleep};
 
 use crate::lock_request::{FileLock, LockRequest, LockStep};
+pub use cid_lock::{CidLockAnswers, MemoryCidLock};
 use memory_steps::MemorySteps;
 pub use record_file::{FileAnswers, MemoryFile};
 

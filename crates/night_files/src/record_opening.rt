@@ -2,6 +2,7 @@ ghost use Rattle.std.specs.Prelude.{◌≡◌, List, [], ◌∷◌, ◌++◌};
 ghost use Rattle.night_files.specs.RecordOpenings.{IsFileReading, IsFirstLook, IsLockIfAny};
 ghost use Rattle.night_files.specs.RecordOpenings.{IsLocking, IsRecordOpening, IsSecondLook};
 ghost use Rattle.night_files.specs.RecordOpenings.{IsTakeOver};
+ghost use Rattle.night_files.specs.RecordLaws.{RecordOpeningLaw, TakeOverLaw};
 ghost use Rattle.night_files.specs.declared.record_opening.OpeningFault.TheVariants as fault;
 ghost use Rattle.night_files.specs.declared.record_opening.RecordStep.{RecordStep as StepOf};
 ghost use Rattle.night_files.specs.declared.record_opening.RecordStep.TheVariants as step;
@@ -78,6 +79,8 @@ pub enum RecordStep {
     Pause(Result<(), FileFault>),
     /// It was read whole.
     Read(Result<(), FileFault>),
+    /// It was removed.
+    Remove,
 }
 
 /// What the system does with the file of a record. It holds the file, its name, and what it read.
@@ -152,6 +155,11 @@ pub trait RecordSystem {
     fn keep_text(&mut self) -> Result<(), FileFault>
         ensures told { tells self.new → tells self.old }
         ensures step { tells self.new → steps self.new ≡ steps self.old ++ step.Read result ∷ [] };
+
+    /// Removes it by its name.
+    fn remove(&mut self)
+        ensures told { tells self.new → tells self.old }
+        ensures step { tells self.new → steps self.new ≡ steps self.old ++ step.Remove ∷ [] };
 }
 
 /// Opens the file of a record for a purpose; whether no other night can be kept in it. It is looked
@@ -273,3 +281,21 @@ fn read_file<S: RecordSystem>(
     }
     Ok(has_lock)
 }
+
+/// Whatever the system answers: a record's file is read only behind a look that found that its name
+/// still leads to it, and that look comes behind its lock, which another process did not have. A
+/// night that begins reads nothing; a file that is watched is neither locked nor read. The file is
+/// opened once, as its purpose has it. Nothing is done behind a step that failed. The answer that
+/// no other night can be kept in it comes only with its lock, or of a FIFO or a device.
+#[tactic(auto, using(crate::proofs::RecordOrder::record_order))]
+pub fn record_opening_law()
+    ensures { RecordOpeningLaw }
+{}
+
+/// Whatever the system answers: a file that is taken over is read as [`record_opening_law`] has it;
+/// it is not opened again; nothing is done behind a step that failed; and it is taken over only
+/// with its lock.
+#[tactic(auto, using(crate::proofs::RecordOrder::take_over_order))]
+pub fn take_over_law()
+    ensures { TakeOverLaw }
+{}

@@ -9,10 +9,10 @@ use byte_reading::{Unread, first_bytes};
 use line_queue::Notice;
 use night_files::{
     FileAccess, FileFault, FileLock, FoundFile, NamedFile, OpeningFault, RecordRefusal,
-    RecordSystem, RecordUse, open_record, take_over_record,
+    RecordSystem, RecordUse, open_record, remove_if_unused, take_over_record,
 };
 use night_record::silence_of;
-use std::fs::{File, Metadata, OpenOptions, metadata};
+use std::fs::{File, Metadata, OpenOptions, metadata, remove_file};
 use std::io::{Error, ErrorKind};
 use std::os::unix::fs::FileTypeExt;
 use std::time::{Instant, SystemTime};
@@ -100,13 +100,23 @@ impl RecordFile {
         RecordFile::open_for(rt, name, RecordUse::Watch)
     }
 
-    fn open_for(rt: &HostRuntime, name: &str, purpose: RecordUse) -> Result<Self, RecordFault> {
-        let mut record = RecordFile {
+    /// Removes the file of a record if no night began in it.
+    pub fn remove_if_unused(rt: &HostRuntime, name: &str) {
+        remove_if_unused(&mut SystemFile::of(rt, name, &mut RecordFile::closed(rt)));
+    }
+
+    // None that is open so far.
+    fn closed(rt: &HostRuntime) -> Self {
+        RecordFile {
             file: None,
             text: Vec::new(rt.alloc()),
             pause: None,
             has_lock: false,
-        };
+        }
+    }
+
+    fn open_for(rt: &HostRuntime, name: &str, purpose: RecordUse) -> Result<Self, RecordFault> {
+        let mut record = RecordFile::closed(rt);
         let answer = open_record(&mut SystemFile::of(rt, name, &mut record), purpose);
         record.take_answer(rt, answer)?;
         Ok(record)
@@ -287,6 +297,10 @@ impl RecordSystem for SystemFile<'_> {
         }
         Ok(())
     }
+
+    fn remove(&mut self) {
+        let _ = remove_file(self.rt, self.name);
+    }
 }
 
 fn found_file(found: &Metadata) -> FoundFile {
@@ -296,7 +310,8 @@ fn found_file(found: &Metadata) -> FoundFile {
     }
 }
 
-fn of_system(error: Error) -> FileFault {
+/// Why the system did not do a step.
+pub fn of_system(error: Error) -> FileFault {
     match error.kind() {
         ErrorKind::OutOfMemory => FileFault::Memory,
         kind => FileFault::System(kind),

@@ -1,8 +1,9 @@
 ghost use Rattle.std.specs.Prelude.{[]};
 
-use night_files::{FileLock, LockRequest, ask_for_lock, descriptor_in, is_unused};
+use crate::record_file::RecordFile;
+use night_files::{FileLock, LockRequest, ask_for_lock, descriptor_in};
 use std::env;
-use std::fs::{File, Metadata, metadata, remove_file};
+use std::fs::{File, Metadata, metadata};
 use std::os::fd::{AsRawFd, RawFd};
 use std::os::unix::fs::MetadataExt;
 use std::thread::sleep;
@@ -73,22 +74,9 @@ pub fn lock_at_once(rt: &HostRuntime, file: &File) -> FileLock {
 /// Removes the file of a record if no night began in it: the one of this name, or the one that was
 /// made before this program was started.
 pub fn remove_unused_record(rt: &HostRuntime, made: Option<&str>) {
-    let named = env::var(rt, MADE);
-    let name = match (made, &named) {
-        (Some(name), _) => name,
-        (None, Ok(name)) => name.as_str(),
-        (None, Err(_)) => return,
-    };
-    let Ok(file) = File::open(rt, name) else {
-        return;
-    };
-    let lock = lock_at_once(rt, &file);
-    let length = match file.metadata() {
-        Ok(found) => Some(found.len()),
-        Err(_) => None,
-    };
-    if is_unused(lock, length) {
-        let _ = remove_file(rt, name);
+    let named = env::var(rt, MADE).ok();
+    if let Some(name) = made.or(named.as_deref()) {
+        RecordFile::remove_if_unused(rt, name);
     }
 }
 

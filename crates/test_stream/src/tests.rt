@@ -1,5 +1,6 @@
 mod booth;
 mod cards;
+mod cid_lock;
 mod following;
 mod head;
 mod lines;

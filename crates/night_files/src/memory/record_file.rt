@@ -98,4 +98,10 @@ impl RecordSystem for MemoryFile {
         self.keep(RecordStep::Read(answer));
         answer
     }
+
+    fn remove(&mut self)
+        ensures { OnlyKeeps self.old self.new step.Remove }
+    {
+        self.keep(RecordStep::Remove);
+    }
 }

@@ -1,7 +1,7 @@
 use night_files::memory::{FileAnswers, MemoryFile};
 use night_files::{
     FileFault, FileLock, FoundFile, NamedFile, OpeningFault, RecordRefusal, RecordStep, RecordUse,
-    open_record, take_over_record,
+    open_record, record_opening_law, remove_if_unused, take_over_law, take_over_record,
 };
 use std::alloc::Global;
 use std::process::Abort;
@@ -9,10 +9,12 @@ use std::process::Abort;
 // What the steps towards a file answer, the answer in the end, and how many steps lead to it.
 type Row = (FileAnswers, Result<bool, OpeningFault>, usize);
 
-// The steps in their order: towards an open file, and to take one over.
+// The steps in their order: towards an open file, to take one over, and to remove one.
 const OPENING: &[&str] = &["name", "open", "look", "lock", "again", "pause", "read"];
 
 const TAKING_OVER: &[&str] = &["at once", "again", "pause"];
+
+const REMOVAL: &[&str] = &["open", "at once", "look", "remove"];
 
 const EMPTY: FoundFile = FoundFile {
     is_regular: true,
@@ -80,7 +82,19 @@ fn word(step: &RecordStep) -> &'static str {
         RecordStep::LookAgain(_) => "again",
         RecordStep::Pause(_) => "pause",
         RecordStep::Read(_) => "read",
+        RecordStep::Remove => "remove",
     }
+}
+
+// Whether these are the first so many steps in their order.
+fn are_steps(file: &MemoryFile, order: &[&str], count: usize) -> bool {
+    let steps = file.steps.as_slice();
+    !file.full
+        && steps.len() == count
+        && steps
+            .iter()
+            .zip(order)
+            .all(|(step, name)| word(step) == *name)
 }
 
 // A file is opened for a purpose, or taken over where there is none.
@@ -91,14 +105,14 @@ fn holds(alloc: Global, purpose: Option<RecordUse>, row: &Row) -> bool {
         Some(purpose) => (open_record(&mut file, purpose), OPENING),
         None => (take_over_record(&mut file), TAKING_OVER),
     };
-    let steps = file.steps.as_slice();
-    !file.full
-        && given == answer
-        && steps.len() == count
-        && steps
-            .iter()
-            .zip(order)
-            .all(|(step, name)| word(step) == *name)
+    given == answer && are_steps(&file, order, count)
+}
+
+// A file is removed, if no night began in it.
+fn is_removed(alloc: Global, answers: FileAnswers, count: usize) -> bool {
+    let mut file = MemoryFile::new(alloc, answers);
+    remove_if_unused(&mut file);
+    are_steps(&file, REMOVAL, count)
 }
 
 fn hold_each(rt: &impl Abort, alloc: Global, purpose: Option<RecordUse>, rows: &[Row]) {
@@ -109,6 +123,7 @@ fn hold_each(rt: &impl Abort, alloc: Global, purpose: Option<RecordUse>, rows: &
 
 #[test]
 fn a_night_begins_in_a_locked_file(rt: HostRuntime) {
+    record_opening_law();
     let rows = &[
         (NEW, Ok(true), 5),
         (THEIRS, refused(RecordRefusal::InUse), 4),
@@ -182,6 +197,7 @@ fn a_night_goes_on_in_a_locked_file(rt: HostRuntime) {
 
 #[test]
 fn a_watched_file_is_locked_to_take_it_over(rt: HostRuntime) {
+    take_over_law();
     let opened = &[
         (THEIRS, Ok(false), 3),
         (
@@ -201,4 +217,16 @@ fn a_watched_file_is_locked_to_take_it_over(rt: HostRuntime) {
         (RENAMED, refused(RecordRefusal::OtherName), 2),
     ];
     hold_each(&rt, rt.alloc(), None, taken);
+}
+
+#[test]
+fn a_locked_and_empty_file_is_removed(rt: HostRuntime) {
+    let written = FileAnswers {
+        found: Ok(WRITTEN),
+        ..NEW
+    };
+    let rows = &[(NEW, 4), (THEIRS, 3), (LOCKLESS, 3), (written, 3)];
+    for (answers, count) in rows {
+        assert!(rt; is_removed(rt.alloc(), *answers, *count));
+    }
 }
