@@ -1,7 +1,8 @@
 //! A system over memory, which tells what it was asked.
 
-ghost use Rattle.std.specs.Prelude.{◌≡◌, false, None, [], ◌∷◌, ◌++◌, option_and_then};
+ghost use Rattle.std.specs.Prelude.{◌≡◌, false, None, [], ◌∷◌, ◌++◌, map, option_and_then};
 ghost use Rattle.network_tables.specs.Tables.{of_name};
+ghost use Rattle.packet_paths.specs.NetworkSteps.NetworkStep.{Ask};
 ghost use Rattle.packet_paths.specs.declared.card_system.CardQuestion.TheVariants as card_question;
 ghost use Rattle.packet_paths.specs.declared.system.Question.TheVariants as question;
 
@@ -65,7 +66,7 @@ impl MemorySystem {
 impl RouteSystem for MemorySystem {
     ghost tells = { λ m. m.full ≡ false };
 
-    ghost questions = { λ m. m.questions.items };
+    ghost steps = { λ m. map Ask m.questions.items };
 
     fn time(&mut self) -> Option<u64>
         ensures answer { result ≡ self.old.time }
