@@ -6,7 +6,6 @@ use Rattle.std.proofs.lemmas.List.Sums.{fold_push}
 use Rattle.std.specs.Prelude.{Some}
 use Rattle.network_tables.specs.declared.neighbor.Neighbor.{Neighbor}
 use Rattle.packet_paths.specs.NetworkLooks.{read_rows, with_row, with_rows}
-use Rattle.packet_paths.specs.NetworkSteps.{NetworkStep}
 use Rattle.packet_paths.specs.NetworkSteps.NetworkStep.{ReadNeighbor}
 use Rattle.packet_paths.specs.declared.path.Path.{Path}
 

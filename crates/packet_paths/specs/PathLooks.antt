@@ -1,8 +1,6 @@
 -- A whole look at the network of a night.
-use Rattle.std.specs.Prelude.{◌≡◌, ℕ, Bool, ◌&&◌, not, true, false, List, [], ◌∷◌, ◌++◌, Result}
+use Rattle.std.specs.Prelude.{◌≡◌, ◌&&◌, not, List, [], ◌∷◌, ◌++◌, Result}
 use Rattle.std.specs.Prelude.{Ok, Err, Option, Some, None, map}
-use Rattle.link_notices.specs.declared.source.SourceState.{SourceState}
-use Rattle.link_notices.specs.declared.source.SourceState.TheVariants as state
 use Rattle.network_tables.specs.declared.neighbor.Neighbor.{Neighbor}
 use Rattle.packet_paths.specs.Hosts.{is_multicast}
 use Rattle.packet_paths.specs.NetworkLooks.{AreRowsRead, AreSourcesLooked, IsLookAlong, can_send}

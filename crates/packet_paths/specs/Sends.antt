@@ -1,5 +1,5 @@
 -- What becomes of a packet.
-use Rattle.std.specs.Prelude.{◌≡◌, ℕ, Bool, ◌&&◌, not, List, [], ◌∷◌, ◌++◌, Result, Ok, Err}
+use Rattle.std.specs.Prelude.{◌≡◌, ℕ, ◌&&◌, not, List, [], ◌∷◌, ◌++◌, Result, Ok, Err}
 use Rattle.std.specs.Prelude.{Option, Some, None, option_and_then, option_map, slice_get}
 use Rattle.std.specs.Prelude.{set, if◌then◌else◌}
 use Rattle.std.specs.Option.{is_some}

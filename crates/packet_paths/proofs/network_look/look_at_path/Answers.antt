@@ -1,9 +1,9 @@
-use Rattle.std.proofs.Common.{◌≡◌, ◌∙◌, ◌&&◌, not, ap, refl, subst, sym}
+use Rattle.std.proofs.Common.{◌≡◌, ◌&&◌, not, refl, subst, sym}
 use Rattle.std.specs.Prelude.{Some}
 use Rattle.packet_paths.specs.Hosts.{is_multicast}
 use Rattle.packet_paths.specs.NetworkLooks.{IsLookAlong, can_send}
 use Rattle.packet_paths.specs.PathLooks.{IsPathFound}
-use Rattle.packet_paths.specs.Sends.{card_address, source_at}
+use Rattle.packet_paths.specs.Sends.{source_at}
 use Rattle.packet_paths.proofs.StepsInOrder.{along_made}
 use Rattle.packet_paths.proofs.network_look.look_at_path.Goals as goal
 

@@ -1,4 +1,4 @@
-use Rattle.std.proofs.Common.{◌∙◌, ◌++◌, ◌∷◌, [], append_assoc, arith, subst, sym, take}
+use Rattle.std.proofs.Common.{◌++◌, ◌∷◌, [], arith, subst, sym, take}
 use Rattle.packet_paths.specs.PathLooks.{ArePathsFound}
 use Rattle.packet_paths.proofs.CardAnswers.{one_more}
 use Rattle.packet_paths.proofs.InTurn.{path_more}

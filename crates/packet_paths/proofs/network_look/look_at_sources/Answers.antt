@@ -1,4 +1,4 @@
-use Rattle.std.proofs.Common.{◌≡◌, ◌∙◌, ◌+◌, ◌++◌, ◌∷◌, [], ap, append_assoc, arith, length}
+use Rattle.std.proofs.Common.{◌≡◌, ◌∙◌, ◌+◌, ◌++◌, ◌∷◌, [], ap, arith, length}
 use Rattle.std.proofs.Common.{subst, sym, take}
 use Rattle.packet_paths.specs.NetworkLooks.{AreSourcesLooked, source_after, source_steps}
 use Rattle.packet_paths.proofs.CardAnswers.{one_more}

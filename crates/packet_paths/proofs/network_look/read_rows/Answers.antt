@@ -1,4 +1,4 @@
-use Rattle.std.proofs.Common.{◌≡◌, ◌∙◌, ◌++◌, ◌∷◌, [], ap, arith, inl, inr}
+use Rattle.std.proofs.Common.{◌∙◌, ◌++◌, ◌∷◌, [], ap, arith, inl, inr}
 use Rattle.std.proofs.Common.{◌+◌, length-append, map, refl}
 use Rattle.std.specs.Prelude.{None, Some}
 use Rattle.packet_paths.specs.NetworkLooks.{read_rows, with_row}

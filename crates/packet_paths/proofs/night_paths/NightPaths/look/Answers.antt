@@ -1,4 +1,4 @@
-use Rattle.std.proofs.Common.{◌≡◌, ◌∙◌, ◌++◌, ap, map, refl, subst}
+use Rattle.std.proofs.Common.{◌∙◌, ◌++◌, ap, map, refl, subst}
 use Rattle.packet_paths.specs.NetworkLooks.{AreSourcesLooked, with_rows}
 use Rattle.packet_paths.specs.PathLooks.{ArePathsFound}
 use Rattle.packet_paths.proofs.RowsShown.{shown_all}

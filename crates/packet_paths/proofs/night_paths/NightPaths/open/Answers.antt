@@ -1,7 +1,7 @@
 use Rattle.std.proofs.Common.{◌≡◌, ◌+◌, ◌++◌, [], arith, get_or, refl, rules, subst, sym, take}
 use Rattle.std.proofs.lemmas.List.{take_more}
 use Rattle.std.proofs.lemmas.Option.{slice_get-get_or}
-use Rattle.std.specs.Prelude.{Err, IfErr, List, Ok, Some, slice_get}
+use Rattle.std.specs.Prelude.{Err, IfErr, List, Some, slice_get}
 use Rattle.packet_paths.specs.Hosts.{path_place}
 use Rattle.packet_paths.specs.NetworkOpens.{AreTaken, IsNotOpen, IsTaken}
 use Rattle.packet_paths.specs.NetworkSteps.{NetworkStep}

@@ -1,4 +1,4 @@
-use Rattle.std.proofs.Common.{◌++◌, ap, refl}
+use Rattle.std.proofs.Common.{◌++◌, refl}
 use Rattle.packet_paths.proofs.StepsInOrder.{behind}
 use Rattle.packet_paths.proofs.night_paths.NightPaths.send.Goals as goal
 
