@@ -1,3 +1,7 @@
 mod BeforePackets
 mod CardAnswers
+mod InTurn
+mod Rooms
+mod RowsShown
 mod SocketAnswers
+mod StepsInOrder

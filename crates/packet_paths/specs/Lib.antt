@@ -1,6 +1,11 @@
 pub mod Hosts
+pub mod NetworkSteps
+pub mod NetworkLooks
+pub mod NetworkOpens
+pub mod PathLooks
 pub mod Routes
 pub mod Takers
 pub mod Sockets
+pub mod Sends
 pub mod SocketCalls
 pub mod AskedCards

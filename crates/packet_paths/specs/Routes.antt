@@ -5,7 +5,8 @@ use Rattle.std.specs.Option.{is_some}
 use Rattle.link_notices.specs.declared.path.CardAddress.{CardAddress}
 use Rattle.link_notices.specs.Paths.{path_state}
 use Rattle.packet_paths.specs.declared.path.Path.{Path}
-use Rattle.packet_paths.specs.declared.system.Question.{Question}
+use Rattle.packet_paths.specs.NetworkSteps.{NetworkStep}
+use Rattle.packet_paths.specs.NetworkSteps.NetworkStep.{Ask}
 use Rattle.packet_paths.specs.declared.system.Question.TheVariants as question
 use Rattle.packet_paths.specs.Hosts.{is_multicast}
 
@@ -44,11 +45,11 @@ IsFound route source last (Some found) =
 
 -- a card that is not known is asked for
 abbrev pub card_questions : List ℕ → CardAddress → Option CardAddress → Option CardAddress
-    → List Question
+    → List NetworkStep
 card_questions host source last None = []
 card_questions host source last (Some found) =
     if is_some (known_card found.address source last) then []
-    else question.Card found.address host found.card ∷ []
+    else Ask (question.Card found.address host found.card) ∷ []
 
 -- a path on which this was found
 abbrev pub with_route : Path → Option CardAddress → CardAddress → Bool → Path
@@ -57,15 +58,15 @@ with_route path found source is_any_route =
 
 -- a look before a packet, where the last look counts: only the time was asked for; and where it
 -- does not: then the address that the route gives, and its card
-abbrev pub IsLookAt : Bool → CardAddress → Path → Path → Option ℕ → List Question → Type 0
+abbrev pub IsLookAt : Bool → CardAddress → Path → Path → Option ℕ → List NetworkStep → Type 0
 IsLookAt true source before after time questions =
-    (after ≡ before) × (questions ≡ question.Time time ∷ [])
+    (after ≡ before) × (questions ≡ Ask (question.Time time) ∷ [])
 IsLookAt false source before after time questions =
     (route : Option (List ℕ)) × IsFound route source before.route after.route
     × (after ≡ with_route (record before { look_time = time }) after.route source false)
-    × (questions ≡ question.Time time ∷ question.Source before.host route
+    × (questions ≡ Ask (question.Time time) ∷ Ask (question.Source before.host route)
     ∷ card_questions before.host source before.route after.route)
 
-abbrev pub IsLookBefore : CardAddress → Path → Path → Option ℕ → List Question → Type 0
+abbrev pub IsLookBefore : CardAddress → Path → Path → Option ℕ → List NetworkStep → Type 0
 IsLookBefore source before after time questions =
     IsLookAt (is_fresh before.look_time time) source before after time questions

@@ -7,7 +7,8 @@ use Rattle.arrayvec.specs.declared.array_string.ArrayString.{ArrayString}
 use Rattle.network_tables.specs.declared.route.Route.{Route}
 use Rattle.network_tables.specs.Neighbors.{silence_toward}
 use Rattle.packet_paths.specs.declared.path.Path.{Path}
-use Rattle.packet_paths.specs.declared.system.Question.{Question}
+use Rattle.packet_paths.specs.NetworkSteps.{NetworkStep}
+use Rattle.packet_paths.specs.NetworkSteps.NetworkStep.{Ask}
 use Rattle.packet_paths.specs.declared.system.Question.TheVariants as question
 
 -- it is asked for where it is not known, or does not answer
@@ -35,10 +36,10 @@ toward None path taker = path
 toward (Some address) path taker = if asks_taker path then with_taker path taker else path
 
 -- what is asked for it
-abbrev pub taker_questions : Option (List ℕ) → Path → Option (List ℕ) → List Question
+abbrev pub taker_questions : Option (List ℕ) → Path → Option (List ℕ) → List NetworkStep
 taker_questions None path taker = []
 taker_questions (Some address) path taker =
-    if asks_taker path then question.Neighbor path.host address taker ∷ [] else []
+    if asks_taker path then Ask (question.Neighbor path.host address taker) ∷ [] else []
 
 -- this machine takes packets itself that go to the address that they come from, or come from its
 -- own loop

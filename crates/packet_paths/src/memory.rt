@@ -1,8 +1,9 @@
 //! A system over memory, which tells what it was asked.
 
-ghost use Rattle.std.specs.Prelude.{◌≡◌, false, option_and_then};
+ghost use Rattle.std.specs.Prelude.{◌≡◌, false, map, option_and_then};
 ghost use Rattle.memory_steps.specs.Keeping.{OnlyKeeps};
 ghost use Rattle.network_tables.specs.Tables.{of_name};
+ghost use Rattle.packet_paths.specs.NetworkSteps.NetworkStep.{Ask};
 ghost use Rattle.packet_paths.specs.declared.card_system.CardQuestion.TheVariants as card_question;
 ghost use Rattle.packet_paths.specs.declared.system.Question.TheVariants as question;
 
@@ -30,7 +31,7 @@ pub type MemorySystem = MemorySteps<RouteAnswers, Question>;
 impl RouteSystem for MemorySystem {
     ghost tells = { λ m. m.full ≡ false };
 
-    ghost questions = { λ m. m.steps.items };
+    ghost steps = { λ m. map Ask m.steps.items };
 
     fn time(&mut self) -> Option<u64>
         ensures answer { result ≡ self.old.answers.time }

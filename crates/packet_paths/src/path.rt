@@ -8,7 +8,8 @@ ghost use Rattle.packet_paths.specs.Routes.{IsFound, IsLookBefore, card_question
 ghost use Rattle.packet_paths.specs.Routes.{if_of, known_card, look_source, with_route};
 ghost use Rattle.packet_paths.specs.Takers.{asks_taker, same_taker, taker_questions, toward};
 ghost use Rattle.packet_paths.specs.Takers.{with_taker};
-ghost use Rattle.packet_paths.specs.declared.system.Question.{Question as QuestionOf};
+ghost use Rattle.packet_paths.specs.NetworkSteps.{NetworkStep};
+ghost use Rattle.packet_paths.specs.NetworkSteps.NetworkStep.{Ask};
 ghost use Rattle.packet_paths.specs.declared.system.Question.TheVariants as question;
 
 use crate::hosts::is_multicast;
@@ -107,8 +108,8 @@ impl Path {
             × IsFound route source self.old.route self.new.route
             × (self.new ≡ with_route (toward route (record self.old { has_link = has_link }) taker)
             self.new.route source is_any_route)
-            × (S.tells system.new → S.questions system.new ≡ S.questions system.old
-            ++ question.Source self.old.host route ∷ taker_questions route self.old taker
+            × (S.tells system.new → S.steps system.new ≡ S.steps system.old
+            ++ Ask (question.Source self.old.host route) ∷ taker_questions route self.old taker
             ++ card_questions self.old.host source self.old.route self.new.route) }
     {
         self.has_link = has_link;
@@ -132,7 +133,7 @@ impl Path {
         ensures path { (taker : Option (List ℕ))
             × (self.new ≡ with_route (toward route self.old taker) self.new.route source
             is_any_route)
-            × (S.tells system.new → S.questions system.new ≡ S.questions system.old
+            × (S.tells system.new → S.steps system.new ≡ S.steps system.old
             ++ taker_questions route self.old taker
             ++ card_questions self.old.host source self.old.route self.new.route) }
     {
@@ -171,7 +172,7 @@ impl Path {
         ensures told { S.tells system.new → S.tells system.old }
         ensures found { IsFound route source self.old.route self.new.route }
         ensures path { self.new ≡ with_route self.old self.new.route source is_any_route }
-        ensures questions { S.tells system.new → S.questions system.new ≡ S.questions system.old
+        ensures questions { S.tells system.new → S.steps system.new ≡ S.steps system.old
             ++ card_questions self.old.host source self.old.route self.new.route }
     {
         self.route = match route {
@@ -193,8 +194,8 @@ impl Path {
         ensures known { IfSome (known_card address source.now self.now.route)
             (λ known. (result ≡ known) × (system.new ≡ system.old)) }
         ensures asked { IfNone (known_card address source.now self.now.route)
-            (S.tells system.new → S.questions system.new ≡ S.questions system.old
-            ++ question.Card address self.now.host result.card ∷ []) }
+            (S.tells system.new → S.steps system.new ≡ S.steps system.old
+            ++ Ask (question.Card address self.now.host result.card) ∷ []) }
     {
         if let Some(known) = known_card(address, source, self.route) {
             return known;
@@ -216,10 +217,10 @@ impl Path {
         ensures waits { IfNone (look_source self.old.host source is_any_route)
             ((self.new ≡ self.old) × (system.new ≡ system.old)) }
         ensures looks { IfSome (look_source self.old.host source is_any_route) (λ source.
-            (time : Option ℕ) × (questions : List QuestionOf)
+            (time : Option ℕ) × (questions : List NetworkStep)
             × IsLookBefore source self.old self.new time questions
             × (S.tells system.new
-            → S.questions system.new ≡ S.questions system.old ++ questions)) }
+            → S.steps system.new ≡ S.steps system.old ++ questions)) }
     {
         match source {
             Some(source) if !is_any_route && !is_multicast(self.host) => {
@@ -232,10 +233,10 @@ impl Path {
     // Looks for the route to the host, unless the last look counts still.
     fn look_now<S: RouteSystem>(&mut self, system: &mut S, source: CardAddress)
         ensures told { S.tells system.new → S.tells system.old }
-        ensures looks { (time : Option ℕ) × (questions : List QuestionOf)
+        ensures looks { (time : Option ℕ) × (questions : List NetworkStep)
             × IsLookBefore source self.old self.new time questions
             × (S.tells system.new
-            → S.questions system.new ≡ S.questions system.old ++ questions) }
+            → S.steps system.new ≡ S.steps system.old ++ questions) }
     {
         let now = system.time();
         if is_fresh(self.look_time, now) {

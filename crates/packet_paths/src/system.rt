@@ -1,5 +1,6 @@
 ghost use Rattle.std.specs.Prelude.{◌≡◌, List, ◌∷◌, ◌++◌, []};
-ghost use Rattle.packet_paths.specs.declared.system.Question.{Question as QuestionOf};
+ghost use Rattle.packet_paths.specs.NetworkSteps.{NetworkStep};
+ghost use Rattle.packet_paths.specs.NetworkSteps.NetworkStep.{Ask};
 ghost use Rattle.packet_paths.specs.declared.system.Question.TheVariants as question;
 
 use network_tables::CardName;
@@ -24,31 +25,31 @@ pub trait RouteSystem {
     /// Contracts can see the questions.
     ghost tells: { Self → Type 0 };
 
-    /// The questions, the first first.
-    ghost questions: { Self → List QuestionOf };
+    /// The questions, among what else was done with the network of a night, the first first.
+    ghost steps: { Self → List NetworkStep };
 
     /// The time by the machine's clock, in nanoseconds from some start; none where it cannot be
     /// read.
     fn time(&mut self) -> Option<u64>
         ensures told { tells self.new → tells self.old }
         ensures question { tells self.new
-            → questions self.new ≡ questions self.old ++ question.Time result ∷ [] };
+            → steps self.new ≡ steps self.old ++ Ask (question.Time result) ∷ [] };
 
     /// The address that a packet to this host would come from, where a route leads there.
     fn source_to(&mut self, host: [u8; 4]) -> Option<[u8; 4]>
         ensures told { tells self.new → tells self.old }
         ensures question { tells self.new
-            → questions self.new ≡ questions self.old ++ question.Source host result ∷ [] };
+            → steps self.new ≡ steps self.old ++ Ask (question.Source host result) ∷ [] };
 
     /// The card of an address of this machine that packets to a host come from.
     fn card_to(&mut self, address: [u8; 4], host: [u8; 4]) -> CardName
         ensures told { tells self.new → tells self.old }
-        ensures question { tells self.new
-            → questions self.new ≡ questions self.old ++ question.Card address host result ∷ [] };
+        ensures question { tells self.new → steps self.new
+            ≡ steps self.old ++ Ask (question.Card address host result) ∷ [] };
 
     /// Who takes the packets from this address to a host first, where that is another machine.
     fn neighbor_to(&mut self, host: [u8; 4], address: [u8; 4]) -> Option<[u8; 4]>
         ensures told { tells self.new → tells self.old }
-        ensures question { tells self.new → questions self.new
-            ≡ questions self.old ++ question.Neighbor host address result ∷ [] };
+        ensures question { tells self.new → steps self.new
+            ≡ steps self.old ++ Ask (question.Neighbor host address result) ∷ [] };
 }

@@ -25,7 +25,7 @@ impl Sender for CardSender<'_> {
 
     fn send_to(&mut self, to: Address, bytes: &[u8]) -> Result<(), LinkFault> {
         match self.network.try_borrow_mut() {
-            Ok(mut network) => network.send(self.rt, to, bytes),
+            Ok(mut network) => network.send(self.rt, to, bytes).map_err(|_| LinkFault),
             Err(_) => Err(LinkFault),
         }
     }

@@ -14,6 +14,16 @@ pub struct SocketFault {
     pub kind: ErrorKind,
 }
 
+impl SocketFault {
+    /// Why none can be had at an address, whichever port the system chooses.
+    pub fn at(address: [u8; 4], kind: ErrorKind) -> SocketFault {
+        SocketFault {
+            address: text_of(SocketAddr::new(IpAddr::from(address), 0)),
+            kind,
+        }
+    }
+}
+
 /// A UDP socket that receives. It does not tell what it gave.
 #[derive(Drop)]
 pub struct ReceivingSocket {
