@@ -6,3 +6,4 @@ pub mod Refusals
 pub mod Failures
 pub mod Targets
 pub mod Cards
+pub mod JobEnds

@@ -12,6 +12,7 @@
 
 mod card;
 mod failure;
+mod job_end;
 mod misfit;
 mod name;
 mod refusal;
@@ -22,6 +23,7 @@ mod weight;
 
 pub use card::{DownCards, of_card, of_route};
 pub use failure::{Failure, JobFault, LostPacket};
+pub use job_end::JobEnd;
 pub use misfit::of_misfit;
 pub use name::{NameText, of_name};
 pub use refusal::{Refusal, RefusalLine};
