@@ -7,3 +7,4 @@ pub mod Failures
 pub mod Targets
 pub mod Cards
 pub mod JobEnds
+pub mod Listening

@@ -149,8 +149,8 @@ fn tell_remark<W: Output>(remark: &Remark, err: &mut W)
     }
 }
 
-// That a text is not told is told nowhere.
-fn write_text<W: Output>(text: &[u8], err: &mut W)
+// Tells a text in one write. That it is not told is told nowhere.
+pub(crate) fn write_text<W: Output>(text: &[u8], err: &mut W)
     ensures told { W.tells err.new → W.tells err.old }
     ensures text { W.tells err.new → Wrote text.now (W.tape err.old) (W.tape err.new) }
 {
