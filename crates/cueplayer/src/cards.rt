@@ -1,44 +1,8 @@
 use crate::device_failure::of_socket_fault;
-use arrayvec::ArrayVec;
-use cmd_faults::RunFault;
 use cmd_words::{Name, Night};
 use network_tables::{CardRefusal, Cards, HiddenCards};
-use night_lines::sole_target;
-use remarks::{DownCards, Failure, JobFault, Remark, of_card, of_route, of_target};
-use show::Show;
-use show_reader::read_show;
+use remarks::{DownCards, JobFault, Remark, of_card, of_route};
 use system_devices::{Leaving, Network, SystemCards, hidden_cards, named_source, read_cards};
-
-/// Refuses targets that do not suit the universes of a show.
-///
-/// # Errors
-///
-/// `Words` where one does not; `Run` where memory was refused. A show that cannot be read suits.
-pub fn check_targets(rt: &HostRuntime, night: &Night, show: &[u8]) -> Result<(), JobFault> {
-    // One target for all universes suits each show.
-    if sole_target(&night.targets).is_some() {
-        return Ok(());
-    }
-    match read_show(rt.alloc(), show) {
-        Ok(loaded) => check_universes(night, &loaded.show, show),
-        Err(fault) => Err(JobFault::Run(Failure::of_run(fault.into(), show, None))),
-    }
-}
-
-// Refuses targets that do not suit the universes of a show with this text.
-fn check_universes(night: &Night, show: &Show, text: &[u8]) -> Result<(), JobFault> {
-    let mut universes = ArrayVec::<u16, 16>::new();
-    for ordinal in show.universes().as_slice() {
-        let Some(universe) = night.base.checked_add(*ordinal) else {
-            return Err(JobFault::Run(Failure::of_run(RunFault::Base, text, None)));
-        };
-        let _ = universes.try_push(universe);
-    }
-    match night.targets.misfit(universes.as_slice()) {
-        None => Ok(()),
-        Some(misfit) => Err(JobFault::Words(of_target(misfit))),
-    }
-}
 
 /// Opens the sockets of a night.
 ///

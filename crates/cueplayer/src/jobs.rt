@@ -17,7 +17,9 @@ use cmd_show::{check, look, slots};
 use cmd_words::{Job, Name, Night, source_name};
 use devices::Output;
 use fade::StepFader;
-use remarks::{Failure, JobFault, LostPacket, of_seeming, of_weight, plain};
+use remarks::{
+    Failure, JobFault, LostPacket, of_seeming, plain, strict_end, tell_listening,
+};
 use sacn_packet::SourceName;
 use sacn_source::Identity;
 use show_reader::read_show;
@@ -99,8 +101,8 @@ fn check_show(rt: &HostRuntime, show: &str, is_strict: bool) -> Result<(), JobFa
     run_end(answer, text, out.failure())?;
     tell_seeming(rt, text);
     match weight {
-        Some(weight) if !weight.is_nothing() => Err(JobFault::Doubts(of_weight(weight))),
-        _ => Ok(()),
+        Some(weight) => strict_end(weight),
+        None => Ok(()),
     }
 }
 
@@ -179,16 +181,9 @@ fn listen_at(rt: &HostRuntime, at: ([u8; 4], u16), universe: u16, count: u32) ->
     requires { (1 ≤ universe) × (universe ≤ 63999) }
 {
     let mut source = ReceivingSocket::bind(rt, at).map_err(of_socket_fault)?;
-    tell(rt, b"listening at ");
-    tell(rt, source.address().as_str().as_bytes());
-    tell(rt, b"\n");
     let (host, _) = at;
-    if let [239, 255, ..] = host {
-        tell(
-            rt,
-            b"this machine hears a multicast group only where it has joined it\n",
-        );
-    }
+    let mut err = SystemOutput::new(rt.stderr());
+    tell_listening(source.address().as_str(), host, &mut err);
     let mut out = SystemOutput::new(rt.stdout());
     match listen(&mut source, universe, count, &mut out) {
         Ok(()) => Ok(()),

@@ -21,102 +21,43 @@ mod standard;
 mod start_lines;
 mod words;
 
-use clap::Error;
-use cmd_faults::{RunFault, exit_status};
 use cmd_words::{WordsFault, read_words};
-use jobs::{run, tell};
-use remarks::{Failure, JobFault, Refusal, Remark, of_misfit, plain};
+use jobs::run;
+use remarks::JobEnd;
 use std::env;
-use std::io::ErrorKind;
 use std::process::ExitCode;
 use system_devices::{SystemOutput, remove_unused_record};
 use words::UserWords;
 
-// The exit status of words that are refused.
-const REFUSED: u8 = 2;
-
-// The exit status of a show that is refused.
-const SHOW_REFUSED: u8 = 3;
-
-// The exit status of a record that is refused.
-const RECORD_REFUSED: u8 = 4;
-
-// Tells on standard error why a run did not end well: the line of its fault, and then what is told
-// of it.
-fn report(rt: &HostRuntime, failure: &Failure) -> u8 {
-    let status = exit_status(&Err(failure.fault), &mut SystemOutput::new(rt.stderr()));
-    tell_remark(rt, &failure.remark);
-    status
-}
-
-// Tells on standard error what is refused, and then why.
-fn refuse(rt: &HostRuntime, line: &[u8], remark: &Remark, status: u8) -> u8 {
-    tell(rt, line);
-    tell_remark(rt, remark);
-    status
-}
-
-fn refuse_words(rt: &HostRuntime, remark: &Remark) -> u8 {
-    refuse(rt, b"words refused\n", remark, REFUSED)
-}
-
-// Tells a remark on a line of its own.
-fn tell_remark(rt: &HostRuntime, remark: &Remark) {
-    if !remark.is_empty() {
-        tell(rt, remark.as_slice());
-        tell(rt, b"\n");
-    }
-}
-
-// Shows the text of an error: help on standard output, any other on standard error.
-fn show_error(rt: &HostRuntime, error: &Error) -> u8 {
-    match error.print(rt) {
-        _ if error.use_stderr() => REFUSED,
-        Ok(()) => 0,
-        Err(fault) => report(rt, &Failure::of_device("standard output", fault.kind())),
-    }
-}
-
-fn status(rt: &HostRuntime) -> u8 {
-    let memory = Failure::from(RunFault::Memory);
+fn end_of_words(rt: &HostRuntime) -> JobEnd {
     let words = match env::args(&(UserWords::new(rt), rt.alloc())) {
         Ok(words) => words,
-        Err(error) if error.kind() == ErrorKind::OutOfMemory => return report(rt, &memory),
-        Err(_) => return refuse_words(rt, &plain("the words are text in UTF-8")),
+        Err(error) => return JobEnd::of_unread(error.kind()),
     };
     let Ok(words) = words.collect::<Vec<String>>(rt.alloc()) else {
-        return report(rt, &memory);
+        return JobEnd::of_memory();
     };
-    let fault = match read_words(rt.alloc(), words.as_slice()) {
-        Ok(job) => return status_of(rt, run(rt, job)),
-        Err(fault) => fault,
-    };
-    remove_unused_record(rt, None);
-    match fault {
-        WordsFault::Refused(error) => show_error(rt, &error),
-        WordsFault::Unfit(misfit) => refuse_words(rt, &of_misfit(&misfit)),
-        WordsFault::Memory => report(rt, &memory),
+    match read_words(rt.alloc(), words.as_slice()) {
+        Ok(job) => JobEnd::of_job(run(rt, job)),
+        Err(fault) => {
+            remove_unused_record(rt, None);
+            end_of_fault(rt, fault)
+        }
     }
 }
 
-// Tells how a job ended, and answers the exit status.
-fn status_of(rt: &HostRuntime, answer: Result<(), JobFault>) -> u8 {
-    match answer {
-        Ok(()) => 0,
-        Err(JobFault::Run(failure)) => report(rt, &failure),
-        Err(JobFault::Record(refusal)) => {
-            refuse(
-                rt,
-                refusal.line.as_str().as_bytes(),
-                &refusal.remark,
-                RECORD_REFUSED,
-            )
+fn end_of_fault(rt: &HostRuntime, fault: WordsFault<'_>) -> JobEnd {
+    match fault {
+        WordsFault::Refused(error) => {
+            let shown = error.print(rt).map_err(|fault| fault.kind());
+            JobEnd::of_text(error.use_stderr(), shown)
         }
-        Err(JobFault::Doubts(remark)) => refuse(rt, b"show: Doubtful\n", &remark, SHOW_REFUSED),
-        Err(JobFault::Words(remark)) => refuse_words(rt, &remark),
+        WordsFault::Unfit(misfit) => JobEnd::of_misfit(&misfit),
+        WordsFault::Memory => JobEnd::of_memory(),
     }
 }
 
 fn main(rt: HostRuntime) -> ExitCode {
-    ExitCode::from(status(&rt))
+    let end = end_of_words(&rt);
+    ExitCode::from(end.tell(&mut SystemOutput::new(rt.stderr())))
 }

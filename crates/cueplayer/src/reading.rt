@@ -1,11 +1,11 @@
 ghost use Rattle.std.specs.Prelude.{◌≡◌, ◌≤◌, IfOk, IfErr, length};
 ghost use Rattle.cueplayer.specs.Reading.{IsUnread};
 
-use crate::cards::check_targets;
 use byte_reading::{Unread, first_bytes};
 use cmd_faults::RunFault;
 use cmd_rehearse::LONGEST_SCRIPT;
 use cmd_words::Night;
+use night_opening::check_targets;
 use night_record::FirstLines;
 use remarks::{Failure, JobFault};
 use show_reader::LONGEST_TEXT;
@@ -60,7 +60,7 @@ pub fn suitable_show(rt: &HostRuntime, night: &Night) -> Result<Vec<u8>, JobFaul
     ensures most { IfOk result (λ bytes. length bytes.items ≤ 1048577) }
 {
     let text = file_text(rt, night.show.as_str())?;
-    check_targets(rt, night, text.as_slice())?;
+    check_targets(rt.alloc(), night, text.as_slice())?;
     Ok(text)
 }
 

@@ -6,3 +6,5 @@ pub mod Refusals
 pub mod Failures
 pub mod Targets
 pub mod Cards
+pub mod JobEnds
+pub mod Listening

@@ -1,7 +1,10 @@
 -- What is told of a show that may mean something else than is played.
-use Rattle.std.specs.Prelude.{ℕ, List, [], ◌∷◌, ◌==◌, codes, decimal, if◌then◌else◌}
+use Rattle.std.specs.Prelude.{◌≡◌, ◌≤◌, ◌⊎◌, ℕ, List, [], ◌∷◌, ◌==◌, codes, decimal, if◌then◌else◌}
+use Rattle.std.specs.Prelude.{Result, Ok, Err}
 use Rattle.cmd_explain.specs.declared.weight.Weight.{Weight}
 use Rattle.remarks.specs.Remarks.{remark_of}
+use Rattle.remarks.specs.declared.failure.JobFault.{JobFault}
+use Rattle.remarks.specs.declared.failure.JobFault.TheVariants.{Doubts}
 
 -- what stands behind the number of notes
 abbrev pub note_words : ℕ → List ℕ
@@ -23,3 +26,11 @@ of_weight weight =
     else (if weight.unknown_lines == 0 then remark_of (notes ∷ note_words weight.notes ∷ see ∷ [])
     else remark_of (notes ∷ note_words weight.notes ∷ codes ", "
     ∷ lines ∷ line_words weight.unknown_lines ∷ see ∷ []))
+
+-- how a strict check of a show ends: well where there are neither notes of weight nor lines with an
+-- unknown keyword, and else in doubt, with how many of both there are
+abbrev pub IsStrictEnd : Weight → Result Unit JobFault → Type 0
+IsStrictEnd weight (Ok done) = (weight.notes ≡ 0) × (weight.unknown_lines ≡ 0)
+IsStrictEnd weight (Err (Doubts remark)) =
+    ((1 ≤ weight.notes) ⊎ (1 ≤ weight.unknown_lines)) × (remark.items ≡ of_weight weight)
+IsStrictEnd weight (Err _) = ⊥

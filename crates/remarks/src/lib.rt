@@ -12,6 +12,8 @@
 
 mod card;
 mod failure;
+mod job_end;
+mod listening;
 mod misfit;
 mod name;
 mod refusal;
@@ -22,10 +24,12 @@ mod weight;
 
 pub use card::{DownCards, of_card, of_route};
 pub use failure::{Failure, JobFault, LostPacket};
+pub use job_end::JobEnd;
+pub use listening::tell_listening;
 pub use misfit::of_misfit;
 pub use name::{NameText, of_name};
 pub use refusal::{Refusal, RefusalLine};
 pub use remark::{Remark, join, of_device, of_seeming, plain, push_shown, refused_line};
 pub use target::of_target;
 pub use text_line::{of_line, of_setup, of_show};
-pub use weight::of_weight;
+pub use weight::{of_weight, strict_end};

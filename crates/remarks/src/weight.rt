@@ -1,11 +1,27 @@
 ghost use Rattle.std.specs.Prelude.{◌≡◌};
-ghost use Rattle.remarks.specs.Weights.{line_words, note_words, of_weight};
+ghost use Rattle.remarks.specs.Weights.{IsStrictEnd, line_words, note_words, of_weight};
 
+use crate::failure::JobFault;
 use crate::remark::{Remark, join, part};
 use cmd_explain::Weight;
 use itoa::Buffer;
 
 const SEE: &[u8] = b": see cueplayer explain";
+
+/// How a strict check of a show with this weight ends.
+///
+/// # Errors
+///
+/// `Doubts` where it has notes of weight, or lines with an unknown keyword.
+pub fn strict_end(weight: Weight) -> Result<(), JobFault>
+    ensures { IsStrictEnd weight result }
+{
+    if weight.is_nothing() {
+        Ok(())
+    } else {
+        Err(JobFault::Doubts(of_weight(weight)))
+    }
+}
 
 /// What of a show may mean something else than is played.
 pub fn of_weight(weight: Weight) -> Remark
