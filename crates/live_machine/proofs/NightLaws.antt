@@ -1,6 +1,6 @@
 -- What an audience sees of a night, whichever way it goes.
-use Rattle.std.proofs.Common.{◌≡◌, refl, ℕ, zero, suc, Bool, true, false}
-use Rattle.std.proofs.Common.{List, [], ◌∷◌, ◌++◌}
+use Rattle.std.proofs.Common.{◌≡◌, refl, ℕ, zero, suc, true, false}
+use Rattle.std.proofs.Common.{List, ◌∷◌, ◌++◌}
 use Rattle.std.specs.Prelude.{Option, Some, None, ⊤}
 use Rattle.live_machine.specs.NightKinds.{BackupStop, all_done, asked, backup_steps, done, done_but}
 use Rattle.live_machine.specs.NightKinds.{joins, spare, spare_steps, stopped_steps}
