@@ -25,9 +25,9 @@ use targets::TargetLink;
 const NO_RECORD_LOCK: &[u8] =
     b"record: no lock can be made, so a second night in this FILE would begin\n";
 
-/// The descriptors that a live night was started with, and room for its network.
+/// The descriptors that a live night was started with, and where its network comes to lie.
 #[derive(Drop)]
-pub struct LiveRoom<'a> {
+pub struct Descriptors<'a> {
     pub standard: Standard<'a>,
     pub network: &'a mut Option<RefCell<Network>>,
 }
@@ -44,20 +44,21 @@ pub struct LiveDevices<'a> {
     pub opening: NightOpening,
     lock: Option<CidLock>,
     network: Network,
-    // Where the network is once the night has begun.
-    room: &'a mut Option<RefCell<Network>>,
+    // Where the network lies once the night has begun.
+    slot: &'a mut Option<RefCell<Network>>,
 }
 
 /// A live night that has begun.
 #[derive(Drop)]
 pub struct Beginning<'a> {
-    pub network: &'a RefCell<Network>,
-    /// It is held until the night has ended.
-    pub lock: Option<CidLock>,
     pub booth: LiveBooth<'a>,
     pub link: TargetLink<CardSender<'a>>,
-    /// For how long the record of a night that goes on had not been written, in milliseconds.
+    pub network: &'a RefCell<Network>,
+    /// For how long the record of a night that goes on, or of its main, had not been written, in
+    /// milliseconds.
     pub passed: u64,
+    /// It is held until the night has ended.
+    pub lock: Option<CidLock>,
 }
 
 impl<'a> LiveDevices<'a> {
@@ -69,14 +70,14 @@ impl<'a> LiveDevices<'a> {
     pub fn open(
         rt: &HostRuntime,
         bill: &Playbill<'_, '_>,
-        room: LiveRoom<'a>,
+        descriptors: Descriptors<'a>,
     ) -> Result<Self, JobFault> {
         let (file, behind) = open_devices(&mut SystemDevices { rt, bill })?;
         let opening = match &file {
             Some(file) => opening_of(rt, bill, file.text())?,
             None => NightOpening::none(),
         };
-        Ok(LiveDevices::of(rt, room, file, opening, behind))
+        Ok(LiveDevices::of(rt, descriptors, file, opening, behind))
     }
 
     /// With the file of a record that is open, and how that goes on.
@@ -87,21 +88,21 @@ impl<'a> LiveDevices<'a> {
     pub fn behind_record(
         rt: &HostRuntime,
         bill: &Playbill<'_, '_>,
-        room: LiveRoom<'a>,
+        descriptors: Descriptors<'a>,
         (file, opening): (RecordFile, NightOpening),
     ) -> Result<Self, JobFault> {
         let behind = open_behind_record(&mut SystemDevices { rt, bill })?;
-        Ok(LiveDevices::of(rt, room, Some(file), opening, behind))
+        Ok(LiveDevices::of(rt, descriptors, Some(file), opening, behind))
     }
 
     fn of(
         rt: &HostRuntime,
-        room: LiveRoom<'a>,
+        descriptors: Descriptors<'a>,
         file: Option<RecordFile>,
         opening: NightOpening,
         behind: OpenDevices<Replies, Option<CidLock>, Network>,
     ) -> Self {
-        let Standard { input, messages } = room.standard;
+        let Standard { input, messages } = descriptors.standard;
         let OpenDevices {
             screen,
             cid_lock,
@@ -115,7 +116,7 @@ impl<'a> LiveDevices<'a> {
             opening,
             lock: cid_lock,
             network,
-            room: room.network,
+            slot: descriptors.network,
         }
     }
 
@@ -152,17 +153,17 @@ impl<'a> LiveDevices<'a> {
             record,
             lock,
             network,
-            room,
+            slot,
             ..
         } = self;
         let input = NightInput::new(input, bill.words.ends_with_input);
-        let network: &RefCell<Network> = room.insert(RefCell::new(network));
+        let network: &RefCell<Network> = slot.insert(RefCell::new(network));
         Ok(Beginning {
-            network,
-            lock,
             booth: LiveBooth::new(rt, pause.until, input, record, screen),
             link: link_of(rt, network, bill.night),
+            network,
             passed: pause.milliseconds,
+            lock,
         })
     }
 }

@@ -1,7 +1,7 @@
 ghost use Rattle.std.specs.Prelude.{◌≤◌};
 
 use crate::jobs::identity;
-use crate::live_devices::LiveRoom;
+use crate::live_devices::Descriptors;
 use crate::live_name::live_name;
 use crate::reading::suitable_show;
 use crate::standard::Standard;
@@ -79,7 +79,7 @@ fn play_night(rt: &HostRuntime, night: &Night, words: LiveWords<'_>, source: Ide
     let standard = Standard::open(rt)?;
     let show = suitable_show(rt, night)?;
     let mut network = None;
-    let room = LiveRoom {
+    let descriptors = Descriptors {
         standard,
         network: &mut network,
     };
@@ -91,14 +91,14 @@ fn play_night(rt: &HostRuntime, night: &Night, words: LiveWords<'_>, source: Ide
     };
     let mut system = SystemNight { rt, bill };
     match (words.main, words.record_file) {
-        (Some(main), _) => match play_backup(&mut system, main, room)? {
+        (Some(main), _) => match play_backup(&mut system, main, descriptors)? {
             BackupEnd::WasOver => Err(JobFault::Record(Refusal::main_is_over())),
             BackupEnd::MainEnded => Ok(Ok(())),
             BackupEnd::Led(end) => Ok(end),
         },
         (None, Some(name)) if words.is_spare => {
-            Ok(play_spare(&mut system, name, room)?.unwrap_or(Ok(())))
+            Ok(play_spare(&mut system, name, descriptors)?.unwrap_or(Ok(())))
         }
-        (None, _) => play_alone(&mut system, room),
+        (None, _) => play_alone(&mut system, descriptors),
     }
 }

@@ -1,16 +1,17 @@
-ghost use Rattle.std.specs.Prelude.{[]};
+ghost use Rattle.std.specs.Prelude.{[], OnOk};
 ghost use Rattle.cmd_live.specs.Stands.{IsPlayable};
 ghost use Rattle.cueplayer.specs.Opening.{CanFollow, playable};
 
 use crate::jobs::{night_end, run_end};
 use crate::link_watch::LinkTeller;
-use crate::live_devices::{Beginning, LiveDevices, LiveRoom, now};
+use crate::live_devices::{Beginning, Descriptors, LiveDevices, now};
 use crate::live_job::{MainWords, Playbill};
 use crate::main_record::{MainRecord, WatchedMain};
 use crate::opening::{new_night, open_night};
 use crate::own_record::OwnRecord;
 use crate::start_lines::StartLines;
 use cmd_live::{Backup, Night, Pause, Silent, Spare};
+use devices::Link;
 use fade::{Fader, StepFader};
 use live_machine::{FollowEnd, MainLines, NightRole, NightSystem};
 use night_lines::{Place, Recording, leading_line, over_line};
@@ -26,7 +27,7 @@ pub struct SystemNight<'a, 's> {
 }
 
 impl<'a> NightSystem for SystemNight<'a, '_> {
-    type Room = LiveRoom<'a>;
+    type Descriptors = Descriptors<'a>;
 
     type MainName = MainWords<'a>;
 
@@ -87,16 +88,16 @@ impl<'a> NightSystem for SystemNight<'a, '_> {
         played.record.into_file()
     }
 
-    fn open_devices(&mut self, room: LiveRoom<'a>) -> Result<LiveDevices<'a>, JobFault> {
-        LiveDevices::open(self.rt, &self.bill, room)
+    fn open_devices(&mut self, descriptors: Descriptors<'a>) -> Result<LiveDevices<'a>, JobFault> {
+        LiveDevices::open(self.rt, &self.bill, descriptors)
     }
 
     fn open_behind_record(
         &mut self,
-        room: LiveRoom<'a>,
+        descriptors: Descriptors<'a>,
         file: (RecordFile, NightOpening),
     ) -> Result<LiveDevices<'a>, JobFault> {
-        LiveDevices::behind_record(self.rt, &self.bill, room, file)
+        LiveDevices::behind_record(self.rt, &self.bill, descriptors, file)
     }
 
     fn new_night(&mut self) -> Result<Night<StepFader>, JobFault> {
@@ -130,21 +131,13 @@ impl<'a> NightSystem for SystemNight<'a, '_> {
         let patience = main.words.patience;
         let watch = WatchedMain {
             rt: self.rt,
-            main: &mut *main,
+            main,
             booth: &mut booth.booth,
         };
         let mut backup = Backup::new(watch, patience);
-        let pause = match lines {
-            MainLines::Standing => night.follow(&mut backup, &mut Silent),
-            MainLines::Coming => night.follow(&mut backup, &mut booth.link),
-        };
-        let ending = backup.ending;
-        main.ending = ending;
-        match pause {
-            Pause::Asked => Ok(FollowEnd::Asked),
-            Pause::Ended if night.is_over() => Ok(FollowEnd::Over),
-            Pause::Ended => Ok(FollowEnd::Ended),
-            Pause::Other => Err(JobFault::Record(Refusal::main_line(main.lines.number()))),
+        match lines {
+            MainLines::Standing => follow_main(night, &mut backup, &mut Silent),
+            MainLines::Coming => follow_main(night, &mut backup, &mut booth.link),
         }
     }
 
@@ -223,6 +216,32 @@ impl<'a> NightSystem for SystemNight<'a, '_> {
     }
 
     ghost plays = { λ night can. playable _ night can };
+}
+
+// Follows a main over this link.
+fn follow_main<L: Link>(
+    night: &mut Night<StepFader>,
+    backup: &mut Backup<WatchedMain<'_, '_, '_>>,
+    link: &mut L,
+) -> Result<FollowEnd, JobFault>
+    requires { CanFollow ⟦<StepFader as Fader>⟧.stands_for night.old }
+    ensures { OnOk result (CanFollow ⟦<StepFader as Fader>⟧.stands_for night.new) }
+{
+    match night.follow(backup, link) {
+        Pause::Asked => Ok(FollowEnd::Asked),
+        Pause::Ended => {
+            backup.watch.main.ending = backup.ending;
+            Ok(if night.is_over() {
+                FollowEnd::Over
+            } else {
+                FollowEnd::Ended
+            })
+        }
+        Pause::Other => {
+            let number = backup.watch.main.lines.number();
+            Err(JobFault::Record(Refusal::main_line(number)))
+        }
+    }
 }
 
 // Where a night is.

@@ -6,8 +6,8 @@ use Rattle.live_machine.specs.NightKinds.{BackupStop, all_done, asked, backup_st
 use Rattle.live_machine.specs.NightKinds.{joins, spare, spare_steps, stopped_steps}
 use Rattle.live_machine.specs.NightKinds as stop
 use Rattle.live_machine.specs.NightLaws.{BackupNightLaw, IsFinished, IsRight, SpareNightLaw}
-use Rattle.live_machine.specs.NightLaws.{catches_up, is_finish, is_over, is_taken_up, none, none_before}
-use Rattle.live_machine.specs.NightLaws.{none_behind, opens, sends, times_of}
+use Rattle.live_machine.specs.NightLaws.{catches_up, is_finish, is_over, is_taken_up, none}
+use Rattle.live_machine.specs.NightLaws.{none_before, none_behind, opens, sends, times_of}
 use Rattle.live_machine.specs.declared.night_kinds.BackupEnd.{BackupEnd}
 use Rattle.live_machine.specs.declared.night_kinds.BackupEnd.TheVariants.{WasOver, MainEnded, Led}
 use Rattle.live_machine.specs.declared.night_system.MainLines.TheVariants.{Coming, Standing}

@@ -1,5 +1,6 @@
 -- Where an operator asks a night behind a main where it is.
-use Rattle.std.proofs.Common.{◌≡◌, refl, ℕ, zero, suc, ◌+◌, arith, List, [], ◌∷◌, ◌++◌, ap, ◌∙◌, append_assoc}
+use Rattle.std.proofs.Common.{◌≡◌, refl, ℕ, zero, suc, ◌+◌, arith, List, [], ◌∷◌, ◌++◌, ap}
+use Rattle.std.proofs.Common.{◌∙◌, append_assoc}
 use Rattle.live_machine.specs.NightKinds.{asked, done}
 use Rattle.live_machine.specs.NightSteps.{followed_steps}
 use Rattle.live_machine.specs.declared.night_system.FollowEnd.{FollowEnd}

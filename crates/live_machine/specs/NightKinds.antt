@@ -66,7 +66,8 @@ asked zero lines = []
 asked (suc times) lines =
     done (deed.Follow lines) ∷ done deed.Asked ∷ done deed.Place ∷ asked times lines
 
--- it took up, over no link, what stood in the main's record when it came, and then went on like this
+-- it took up, over no link, what stood in the main's record when it came, and then went on like
+-- this
 abbrev pub caught_up : ℕ → List NightStep → List NightStep
 caught_up times steps =
     all_done joins ++ asked times Standing ++ done (deed.Follow Standing) ∷ steps

@@ -1,5 +1,5 @@
-//! A clock, an input, the machine of a booth, a night's devices and its steps over memory: they tell
-//! what they did, and some of their calls fail.
+//! A clock, an input, the machine of a booth, a night's devices and its steps over memory: they
+//! tell what they did, and some of their calls fail.
 
 mod booth;
 mod clock;

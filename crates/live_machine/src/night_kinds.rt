@@ -34,14 +34,17 @@ type Joined<S> = (
 /// # Errors
 ///
 /// Why it did not begin; no step follows that.
-pub fn play_alone<S: NightSystem>(system: &mut S, room: S::Room) -> Result<S::End, S::Fault>
+pub fn play_alone<S: NightSystem>(
+    system: &mut S,
+    descriptors: S::Descriptors,
+) -> Result<S::End, S::Fault>
     ensures told { S.tells system.new → S.tells system.old }
     ensures ok { OnOk result (S.tells system.new
         → S.steps system.new ≡ S.steps system.old ++ all_done alone) }
     ensures err { OnErr result (S.tells system.new → (count : ℕ) × (count < 3)
         × (S.steps system.new ≡ S.steps system.old ++ done_but count alone)) }
 {
-    let devices = system.open_devices(room)?;
+    let devices = system.open_devices(descriptors)?;
     let mut night = system.open_night(&devices)?;
     lead_night(system, devices, &mut night)
 }
@@ -55,7 +58,7 @@ pub fn play_alone<S: NightSystem>(system: &mut S, room: S::Room) -> Result<S::En
 pub fn play_spare<S: NightSystem>(
     system: &mut S,
     name: S::RecordName,
-    room: S::Room,
+    descriptors: S::Descriptors,
 ) -> Result<Option<S::End>, S::Fault>
     ensures told { S.tells system.new → S.tells system.old }
     ensures ok { IfOk result (λ end. S.tells system.new
@@ -69,7 +72,7 @@ pub fn play_spare<S: NightSystem>(
         return Ok(None);
     }
     let file = system.record_file(played)?;
-    let devices = system.open_behind_record(room, file)?;
+    let devices = system.open_behind_record(descriptors, file)?;
     let end = lead_night(system, devices, &mut night)?;
     Ok(Some(end))
 }
@@ -83,7 +86,7 @@ pub fn play_spare<S: NightSystem>(
 pub fn play_backup<S: NightSystem>(
     system: &mut S,
     name: S::MainName,
-    room: S::Room,
+    descriptors: S::Descriptors,
 ) -> Result<BackupEnd<S::End>, S::Fault>
     ensures told { S.tells system.new → S.tells system.old }
     ensures ok { IfOk result (λ end. S.tells system.new → (times later : ℕ)
@@ -91,14 +94,9 @@ pub fn play_backup<S: NightSystem>(
     ensures err { OnErr result (S.tells system.new → (stop : BackupStop)
         × (S.steps system.new ≡ S.steps system.old ++ stopped_steps stop)) }
 {
-    let (mut main, mut night, mut booth) = join_main(system, name, room)?;
-    if follow_till(
-        system,
-        &mut night,
-        &mut main,
-        &mut booth,
-        MainLines::Standing,
-    )? {
+    let (mut main, mut night, mut booth) = join_main(system, name, descriptors)?;
+    let lines = MainLines::Standing;
+    if follow_till(system, &mut night, &mut main, &mut booth, lines)? {
         return Ok(BackupEnd::WasOver);
     }
     system.tell_main(&night, &main, &mut booth)?;
@@ -150,7 +148,7 @@ fn lead_night<S: NightSystem>(
 fn join_main<S: NightSystem>(
     system: &mut S,
     name: S::MainName,
-    room: S::Room,
+    descriptors: S::Descriptors,
 ) -> Result<Joined<S>, S::Fault>
     ensures can { IfOk result (λ joined. S.can_follow joined.1) }
     ensures told { S.tells system.new → S.tells system.old }
@@ -160,7 +158,7 @@ fn join_main<S: NightSystem>(
         × (S.steps system.new ≡ S.steps system.old ++ done_but count joins)) }
 {
     let main = system.open_main(name)?;
-    let devices = system.open_devices(room)?;
+    let devices = system.open_devices(descriptors)?;
     let night = system.new_night()?;
     let mut booth = system.begin(devices, &night, NightRole::Follows)?;
     system.watch(&mut booth);

@@ -39,7 +39,8 @@ pub enum NightDeed {
     RecordFile,
     /// The devices are opened: the record, the screen, the lock of the CID, and the sockets.
     Devices,
-    /// The devices behind a record that is had are opened: the lock of the CID and the sockets, too.
+    /// The devices behind a record that is had are opened: the screen, the lock of the CID, and the
+    /// sockets.
     DevicesBehind,
     /// The show is opened, behind the lines of the record where its night goes on.
     Night,
@@ -83,8 +84,8 @@ pub struct NightStep {
 /// It *tells* where contracts can see the steps: then it told before each of them, too. One that
 /// tells has done at most 2^64 - 2 steps.
 pub trait NightSystem {
-    /// Standard input and error, and room for what is opened.
-    type Room: Drop;
+    /// The descriptors that the night was started with.
+    type Descriptors: Drop;
     /// Which main is followed.
     type MainName: Drop;
     /// Which record is taken up.
@@ -181,7 +182,7 @@ pub trait NightSystem {
     /// # Errors
     ///
     /// Why one is not had, or which other night its record is of.
-    fn open_devices(&mut self, room: Self::Room) -> Result<Self::Devices, Self::Fault>
+    fn open_devices(&mut self, descriptors: Self::Descriptors) -> Result<Self::Devices, Self::Fault>
         ensures told { tells self.new → tells self.old }
         ensures ok { OnOk result (tells self.new
             → steps self.new ≡ steps self.old ++ done deed.Devices ∷ []) }
@@ -195,7 +196,7 @@ pub trait NightSystem {
     /// Why one is not had.
     fn open_behind_record(
         &mut self,
-        room: Self::Room,
+        descriptors: Self::Descriptors,
         file: Self::RecordFile,
     ) -> Result<Self::Devices, Self::Fault>
         ensures told { tells self.new → tells self.old }

@@ -1,5 +1,5 @@
-ghost use Rattle.std.specs.Prelude.{◌≡◌, ◌<◌, ◌-◌, ◌++◌, ◌∷◌, [], ⊤, false, is_err, is_some, length};
-ghost use Rattle.std.specs.Prelude.{IfOk, OnOk, OnErr};
+ghost use Rattle.std.specs.Prelude.{◌≡◌, ◌<◌, ◌-◌, ◌++◌, ◌∷◌, [], ⊤, false, is_err, is_some};
+ghost use Rattle.std.specs.Prelude.{length, IfOk, OnOk, OnErr};
 ghost use Rattle.live_machine.specs.MemoryNight.{HasTried, IsSame, follow_end};
 ghost use Rattle.live_machine.specs.NightKinds.{done, failed};
 ghost use Rattle.live_machine.specs.NightSteps.{followed_steps, took_up_steps};
@@ -75,7 +75,7 @@ impl MemoryNight {
 }
 
 impl NightSystem for MemoryNight {
-    type Room = ();
+    type Descriptors = ();
 
     type MainName = ();
 
@@ -159,7 +159,7 @@ impl NightSystem for MemoryNight {
         self.try_deed(NightDeed::RecordFile)
     }
 
-    fn open_devices(&mut self, _room: ()) -> Result<(), LinkFault>
+    fn open_devices(&mut self, _descriptors: ()) -> Result<(), LinkFault>
         ensures tries { HasTried (is_err result) self.old self.new }
         ensures same { IsSame self.old self.new }
         ensures told { self.new.full ≡ false → self.old.full ≡ false }
@@ -171,7 +171,7 @@ impl NightSystem for MemoryNight {
         self.try_deed(NightDeed::Devices)
     }
 
-    fn open_behind_record(&mut self, _room: (), _file: ()) -> Result<(), LinkFault>
+    fn open_behind_record(&mut self, _descriptors: (), _file: ()) -> Result<(), LinkFault>
         ensures tries { HasTried (is_err result) self.old self.new }
         ensures same { IsSame self.old self.new }
         ensures told { self.new.full ≡ false → self.old.full ≡ false }

@@ -6,7 +6,8 @@ use Rattle.live_machine.proofs.night_kinds.follow_till.Goals as goal
 pub loop-turn-preserved : goal.loop-turn-preserved
 loop-turn-preserved g c = record {
   can = c.in_ok-follow.ensures.can;
-  told = λ told. c.loop-turn.invariant.told (c.follow.ensures.told (c.show_place.ensures.told told));
+  told = λ told. c.loop-turn.invariant.told
+      (c.follow.ensures.told (c.show_place.ensures.told told));
   asked = λ told.
       let behind = c.show_place.ensures.told told in
       let before = c.loop-turn.invariant.asked (c.follow.ensures.told behind) in
