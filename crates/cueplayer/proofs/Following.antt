@@ -1,4 +1,4 @@
--- A night that has followed a main can follow on, and can be played.
+-- A night that has followed a main can follow on.
 use Rattle.std.proofs.Common.{List, ◌++◌}
 use Rattle.devices.specs.Send.{Send}
 use Rattle.fade.specs.Level.{Start}
@@ -7,9 +7,7 @@ use Rattle.cmd_live.specs.Following.{Follows}
 use Rattle.cmd_live.specs.declared.follow.Pause.{Pause}
 use Rattle.cmd_live.specs.declared.main_console.Led.{Led}
 use Rattle.cmd_live.specs.declared.night.Night.{Night}
-use Rattle.cmd_live.specs.Stands.{IsPlayable}
 use Rattle.cueplayer.specs.Opening.{CanFollow}
-use Rattle.live_input.specs.Recall.{recall_of}
 
 pub follows_on : {F : Type 0} (stands_for : F → List Start → Type 0) (tells : Type 0)
     (pause : Pause) (old new : Night F) (given gives : List Led) (before after : List Send)
@@ -24,9 +22,3 @@ follows_on stands_for tells pause old new given gives before after can follows =
       are_recalled = follows.takes.are_recalled p taken.lines taken.stands taken.are_recalled;
     } in
     (follows.takes.ready, (p, now))
-
-pub playable : {F : Type 0} (stands_for : F → List Start → Type 0) (night : Night F)
-    → CanFollow stands_for night → IsPlayable stands_for night
-playable stands_for night can =
-    let taken = can.1.1 in
-    ((can.1.0, recall_of taken.lines, taken.stands), can.0.none_lost)

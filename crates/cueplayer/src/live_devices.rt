@@ -2,9 +2,9 @@ ghost use Rattle.std.specs.Prelude.{[]};
 
 use crate::cards::open_network;
 use crate::device_failure::{of_device_fault, of_lock_fault, of_record};
-use crate::jobs::{NO_LOCK, run_end};
+use crate::jobs::{NO_LOCK, link_of, run_end};
 use crate::live_booth::LiveBooth;
-use crate::live_job::{LiveWords, Playbill};
+use crate::live_job::Playbill;
 use crate::opening::opening_of;
 use crate::screen::{Replies, Screen, open_replies};
 use crate::standard::Standard;
@@ -18,11 +18,19 @@ use night_record::NightOpening;
 use remarks::{Failure, JobFault};
 use std::cell::RefCell;
 use std::time::Instant;
-use system_devices::{CidLock, Network, Pause, Record, RecordFile, TypedInput};
+use system_devices::{CardSender, CidLock, Network, Pause, Record, RecordFile, TypedInput};
+use targets::TargetLink;
 
 // Told where the file system of a record has no locks.
 const NO_RECORD_LOCK: &[u8] =
     b"record: no lock can be made, so a second night in this FILE would begin\n";
+
+/// The descriptors that a live night was started with, and where its network comes to lie.
+#[derive(Drop)]
+pub struct Descriptors<'a> {
+    pub standard: Standard<'a>,
+    pub network: &'a mut Option<RefCell<Network>>,
+}
 
 /// What a live night plays from and to, before it begins.
 #[derive(Drop)]
@@ -36,17 +44,21 @@ pub struct LiveDevices<'a> {
     pub opening: NightOpening,
     lock: Option<CidLock>,
     network: Network,
+    // Where the network lies once the night has begun.
+    slot: &'a mut Option<RefCell<Network>>,
 }
 
 /// A live night that has begun.
 #[derive(Drop)]
 pub struct Beginning<'a> {
-    pub network: RefCell<Network>,
+    pub booth: LiveBooth<'a>,
+    pub link: TargetLink<CardSender<'a>>,
+    pub network: &'a RefCell<Network>,
+    /// For how long the record of a night that goes on, or of its main, had not been written, in
+    /// milliseconds.
+    pub passed: u64,
     /// It is held until the night has ended.
     pub lock: Option<CidLock>,
-    pub booth: LiveBooth<'a>,
-    /// For how long the record of a night that goes on had not been written, in milliseconds.
-    pub passed: u64,
 }
 
 impl<'a> LiveDevices<'a> {
@@ -58,14 +70,14 @@ impl<'a> LiveDevices<'a> {
     pub fn open(
         rt: &HostRuntime,
         bill: &Playbill<'_, '_>,
-        standard: Standard<'a>,
+        descriptors: Descriptors<'a>,
     ) -> Result<Self, JobFault> {
         let (file, behind) = open_devices(&mut SystemDevices { rt, bill })?;
         let opening = match &file {
             Some(file) => opening_of(rt, bill, file.text())?,
             None => NightOpening::none(),
         };
-        Ok(LiveDevices::of(rt, standard, file, opening, behind))
+        Ok(LiveDevices::of(rt, descriptors, file, opening, behind))
     }
 
     /// With the file of a record that is open, and how that goes on.
@@ -76,22 +88,21 @@ impl<'a> LiveDevices<'a> {
     pub fn behind_record(
         rt: &HostRuntime,
         bill: &Playbill<'_, '_>,
-        standard: Standard<'a>,
-        file: RecordFile,
-        opening: NightOpening,
+        descriptors: Descriptors<'a>,
+        (file, opening): (RecordFile, NightOpening),
     ) -> Result<Self, JobFault> {
         let behind = open_behind_record(&mut SystemDevices { rt, bill })?;
-        Ok(LiveDevices::of(rt, standard, Some(file), opening, behind))
+        Ok(LiveDevices::of(rt, descriptors, Some(file), opening, behind))
     }
 
     fn of(
         rt: &HostRuntime,
-        standard: Standard<'a>,
+        descriptors: Descriptors<'a>,
         file: Option<RecordFile>,
         opening: NightOpening,
         behind: OpenDevices<Replies, Option<CidLock>, Network>,
     ) -> Self {
-        let Standard { input, messages } = standard;
+        let Standard { input, messages } = descriptors.standard;
         let OpenDevices {
             screen,
             cid_lock,
@@ -105,6 +116,7 @@ impl<'a> LiveDevices<'a> {
             opening,
             lock: cid_lock,
             network,
+            slot: descriptors.network,
         }
     }
 
@@ -116,8 +128,7 @@ impl<'a> LiveDevices<'a> {
         }
     }
 
-    /// Begins the night, and its record. It tells how the night begins, or from which place it goes
-    /// on; that of a night which follows a main is told once it has taken up what the main did.
+    /// Begins the night, and its record, in the order of [`start_night`].
     ///
     /// # Errors
     ///
@@ -127,11 +138,8 @@ impl<'a> LiveDevices<'a> {
         rt: &'a HostRuntime,
         bill: &Playbill<'_, '_>,
         place: Place,
+        role: NightRole,
     ) -> Result<Beginning<'a>, JobFault> {
-        let role = match bill.words.main {
-            Some(_) => NightRole::Follows,
-            None => NightRole::Leads,
-        };
         let mut start = SystemStart {
             rt,
             bill,
@@ -145,85 +153,18 @@ impl<'a> LiveDevices<'a> {
             record,
             lock,
             network,
+            slot,
             ..
         } = self;
         let input = NightInput::new(input, bill.words.ends_with_input);
+        let network: &RefCell<Network> = slot.insert(RefCell::new(network));
         Ok(Beginning {
-            network: RefCell::new(network),
-            lock,
             booth: LiveBooth::new(rt, pause.until, input, record, screen),
-            passed: pause.milliseconds,
-        })
-    }
-
-    // Tells how the night begins.
-    fn tell_lines(
-        &mut self,
-        rt: &HostRuntime,
-        bill: &Playbill<'_, '_>,
-        place: Place,
-    ) -> Result<(), Failure> {
-        let recorded = self.recording(bill.words, place);
-        let LiveDevices {
+            link: link_of(rt, network, bill.night),
             network,
-            screen,
-            ..
-        } = self;
-        let lines = StartLines {
-            night: bill.night,
-            show: bill.show,
-            network: &*network,
-            recorded,
-            followed: None,
-        };
-        run_end(lines.tell(rt, screen), bill.show, None)
-    }
-
-    // Tells of locks that cannot be made.
-    fn tell_missing_locks(&mut self) {
-        if self.lock.is_none() {
-            self.screen.tell(NO_LOCK);
-        }
-        if let Some(file) = &self.file
-            && !file.has_lock()
-        {
-            self.screen.tell(NO_RECORD_LOCK);
-        }
-    }
-
-    // Where the night is recorded, and from where it goes on there.
-    fn recording<'w>(&self, words: LiveWords<'w>, place: Place) -> Option<Recording<'w>> {
-        let record = self.file.as_ref()?;
-        Some(Recording {
-            file: words.record_file?,
-            resumes: words.resumes,
-            place: self.opening.lines.goes_on().then_some(place),
-            is_cut: self.opening.lines.has_cut_line(record.length()),
+            passed: pause.milliseconds,
+            lock,
         })
-    }
-    // How long the record of a night that goes on had not been written; a night that begins does so
-    // now.
-    fn pause(&self, rt: &HostRuntime) -> Result<Pause, Failure> {
-        match self.file.as_ref().and_then(RecordFile::pause) {
-            Some(pause) if self.opening.lines.goes_on() => Ok(pause),
-            _ => Ok(Pause {
-                until: now(rt)?,
-                milliseconds: 0,
-            }),
-        }
-    }
-
-    // Cuts the file of a record behind its last line, or begins it.
-    fn begin_record(&mut self, rt: &HostRuntime, words: LiveWords<'_>) -> Result<(), JobFault> {
-        let (Some(file), Some(name)) = (self.file.take(), words.record_file) else {
-            return Ok(());
-        };
-        let kept = file.keep_lines(rt, self.opening.lines.to);
-        self.record = kept.map_err(|fault| of_record(name, fault))?;
-        if let Some(head) = &self.opening.head {
-            self.record.keep(head.as_slice(), self.screen.messages());
-        }
-        Ok(())
     }
 }
 
@@ -282,6 +223,20 @@ struct SystemStart<'d, 'a, 'w, 's> {
     devices: &'d mut LiveDevices<'a>,
 }
 
+impl<'w> SystemStart<'_, '_, 'w, '_> {
+    // Where the night is recorded, and from where it goes on there.
+    fn recording(&self) -> Option<Recording<'w>> {
+        let record = self.devices.file.as_ref()?;
+        let lines = &self.devices.opening.lines;
+        Some(Recording {
+            file: self.bill.words.record_file?,
+            resumes: self.bill.words.resumes,
+            place: lines.goes_on().then_some(self.place),
+            is_cut: lines.has_cut_line(record.length()),
+        })
+    }
+}
+
 // It does not tell its steps.
 impl StartSystem for SystemStart<'_, '_, '_, '_> {
     type Pause = Pause;
@@ -293,19 +248,54 @@ impl StartSystem for SystemStart<'_, '_, '_, '_> {
     ghost steps = { λ _. [] };
 
     fn tell_missing_locks(&mut self) {
-        self.devices.tell_missing_locks();
+        let devices = &mut *self.devices;
+        if devices.lock.is_none() {
+            devices.screen.tell(NO_LOCK);
+        }
+        if let Some(file) = &devices.file
+            && !file.has_lock()
+        {
+            devices.screen.tell(NO_RECORD_LOCK);
+        }
     }
 
     fn tell_lines(&mut self) -> Result<(), JobFault> {
-        Ok(self.devices.tell_lines(self.rt, self.bill, self.place)?)
+        let recorded = self.recording();
+        let devices = &mut *self.devices;
+        let lines = StartLines {
+            night: self.bill.night,
+            show: self.bill.show,
+            network: &devices.network,
+            recorded,
+            followed: None,
+        };
+        let told = lines.tell(self.rt, &mut devices.screen);
+        Ok(run_end(told, self.bill.show, None)?)
     }
 
+    // A night that begins does so now.
     fn look_at_pause(&mut self) -> Result<Pause, JobFault> {
-        Ok(self.devices.pause(self.rt)?)
+        match self.devices.file.as_ref().and_then(RecordFile::pause) {
+            Some(pause) if self.devices.opening.lines.goes_on() => Ok(pause),
+            _ => Ok(Pause {
+                until: now(self.rt)?,
+                milliseconds: 0,
+            }),
+        }
     }
 
     fn begin_record(&mut self) -> Result<(), JobFault> {
-        self.devices.begin_record(self.rt, self.bill.words)
+        let devices = &mut *self.devices;
+        let (Some(file), Some(name)) = (devices.file.take(), self.bill.words.record_file) else {
+            return Ok(());
+        };
+        let kept = file.keep_lines(self.rt, devices.opening.lines.to);
+        devices.record = kept.map_err(|fault| of_record(name, fault))?;
+        if let Some(head) = &devices.opening.head {
+            let messages = devices.screen.messages();
+            devices.record.keep(head.as_slice(), messages);
+        }
+        Ok(())
     }
 }
 

@@ -1,21 +1,15 @@
 ghost use Rattle.std.specs.Prelude.{◌≤◌};
-ghost use Rattle.cmd_live.specs.Stands.{IsPlayable};
 
-use crate::follow_job::play_following;
-use crate::jobs::{identity, link_of, night_end};
-use crate::link_watch::LinkTeller;
-use crate::live_devices::{Beginning, LiveDevices};
+use crate::jobs::identity;
+use crate::live_devices::Descriptors;
 use crate::live_name::live_name;
-use crate::opening::open_night;
 use crate::reading::suitable_show;
-use crate::spare_job::play_as_spare;
 use crate::standard::Standard;
+use crate::system_night::SystemNight;
 use cmd_faults::RunFault;
-use cmd_live::Night as LiveNight;
 use cmd_words::Night;
-use fade::{Fader, StepFader};
-use night_lines::Place;
-use remarks::{Failure, JobFault};
+use live_machine::{BackupEnd, play_alone, play_backup, play_spare};
+use remarks::{Failure, JobFault, Refusal};
 use sacn_source::Identity;
 use std::fs::symlink_metadata;
 use std::io::ErrorKind;
@@ -84,56 +78,27 @@ fn is_missing(rt: &HostRuntime, name: &str) -> bool {
 fn play_night(rt: &HostRuntime, night: &Night, words: LiveWords<'_>, source: Identity) -> NightEnd {
     let standard = Standard::open(rt)?;
     let show = suitable_show(rt, night)?;
+    let mut network = None;
+    let descriptors = Descriptors {
+        standard,
+        network: &mut network,
+    };
     let bill = Playbill {
         night,
         words,
         show: show.as_slice(),
         source,
     };
+    let mut system = SystemNight { rt, bill };
     match (words.main, words.record_file) {
-        (Some(main), _) => play_following(rt, &bill, main, standard),
-        (None, Some(name)) if words.is_spare => play_as_spare(rt, &bill, name, standard),
-        (None, _) => play_alone(rt, &bill, standard),
-    }
-}
-
-// Plays a night that begins, or goes on from its record.
-fn play_alone<'r>(
-    rt: &'r HostRuntime,
-    bill: &Playbill<'_, '_>,
-    standard: Standard<'r>,
-) -> NightEnd {
-    let devices = LiveDevices::open(rt, bill, standard)?;
-    let mut night = open_night::<StepFader>(rt, bill, &devices.opening, devices.text())?;
-    lead(rt, bill, devices, &mut night)
-}
-
-/// Plays a night that was opened, from its devices.
-pub fn lead<'r, F: Fader>(
-    rt: &'r HostRuntime,
-    bill: &Playbill<'_, '_>,
-    devices: LiveDevices<'r>,
-    night: &mut LiveNight<F>,
-) -> NightEnd
-    requires { IsPlayable F.stands_for night.old }
-{
-    let Beginning {
-        network,
-        lock: _lock,
-        mut booth,
-        passed,
-    } = devices.begin(rt, bill, place_of(night))?;
-    booth.watch(LinkTeller::new(rt, &network));
-    let mut link = link_of(rt, &network, bill.night);
-    let answer = night.live(passed, &mut booth, &mut link);
-    booth.finish();
-    Ok(night_end(answer, bill.show, &network, None))
-}
-
-/// Where a night is.
-pub fn place_of<F: Fader>(night: &LiveNight<F>) -> Place {
-    Place {
-        moment: night.moment(),
-        cue: night.console.current(),
+        (Some(main), _) => match play_backup(&mut system, main, descriptors)? {
+            BackupEnd::WasOver => Err(JobFault::Record(Refusal::main_is_over())),
+            BackupEnd::MainEnded => Ok(Ok(())),
+            BackupEnd::Led(end) => Ok(end),
+        },
+        (None, Some(name)) if words.is_spare => {
+            Ok(play_spare(&mut system, name, descriptors)?.unwrap_or(Ok(())))
+        }
+        (None, _) => play_alone(&mut system, descriptors),
     }
 }

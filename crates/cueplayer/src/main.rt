@@ -3,7 +3,6 @@
 
 mod cards;
 mod device_failure;
-mod follow_job;
 mod jobs;
 mod link_watch;
 mod live_booth;
@@ -16,9 +15,9 @@ mod opening;
 mod own_record;
 mod reading;
 mod screen;
-mod spare_job;
 mod standard;
 mod start_lines;
+mod system_night;
 mod words;
 
 use cmd_words::{WordsFault, read_words};

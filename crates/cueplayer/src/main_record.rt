@@ -1,12 +1,16 @@
 ghost use Rattle.std.specs.Prelude.{[]};
 
 use crate::live_booth::LiveBooth;
-use crate::live_job::MainWords;
-use cmd_live::{Backup, Led, MainConsole, MainWatch};
+use crate::live_devices::now;
+use crate::live_job::{MainWords, Playbill};
+use crate::opening::head_of;
+use crate::reading::record_lines;
+use cmd_live::{Ending, MainWatch};
 use devices::LinkFault;
 use live_machine::Came;
-use night_lines::{leading_line, led_help_line, led_reminder_line, missing_line, over_line};
-use night_record::{LineFront, NightLines, kept_line, leading_moment, silence_of};
+use night_lines::{MainNight, Place, led_help_line, led_reminder_line, missing_line};
+use night_record::{LineFront, NightLines, RecordHead, kept_line, main_head};
+use remarks::{JobFault, Refusal};
 use std::time::{Duration, Instant};
 use system_devices::AppendedLines;
 
@@ -14,89 +18,73 @@ use system_devices::AppendedLines;
 // again.
 const TURN: u64 = 5;
 
-/// The record of a main as it grows, and what is typed meanwhile. The lines that stand in it at the
-/// start come first, and then an end, so that they can be carried out over no link.
+/// The record of a main as it grows, behind its head, and what is typed meanwhile.
 #[derive(Drop)]
-pub struct MainRecord<'a> {
-    backup: Backup<WatchedMain<'a>>,
+pub struct MainRecord<'w> {
+    pub words: MainWords<'w>,
+    head: RecordHead,
+    pub lines: AppendedLines,
+    /// When the newest line came, or the following began.
+    pub last: Instant,
+    /// Behind the lines that stood there at the start.
+    pub has_begun: bool,
+    pub typed: NightLines,
+    pub input_ended: bool,
+    /// Why the newest end came.
+    pub ending: Ending,
 }
 
-// Where the main is watched on this machine. It does not tell.
-#[derive(Drop)]
-struct WatchedMain<'a> {
-    rt: &'a HostRuntime,
-    booth: LiveBooth<'a>,
-    file: &'a str,
-    lines: AppendedLines,
-    // When the newest line came.
-    last: Instant,
-    // Behind the lines that stood there at the start.
-    has_begun: bool,
-    typed: NightLines,
-    input_ended: bool,
-}
-
-impl<'a> MainRecord<'a> {
-    /// The record behind its head.
-    pub fn new(
-        rt: &'a HostRuntime,
-        booth: LiveBooth<'a>,
-        words: MainWords<'a>,
-        lines: AppendedLines,
-        now: Instant,
-    ) -> Self {
-        let watch = WatchedMain {
-            rt,
-            booth,
-            file: words.file,
-            lines,
-            last: now,
-            has_begun: false,
-            typed: NightLines::new(),
-            input_ended: false,
+impl<'w> MainRecord<'w> {
+    /// Opens the record of a main, where that is of the same show and base, and of another CID.
+    ///
+    /// # Errors
+    ///
+    /// Why it is not followed.
+    pub fn open(
+        rt: &HostRuntime,
+        bill: &Playbill<'_, '_>,
+        words: MainWords<'w>,
+    ) -> Result<Self, JobFault> {
+        let night = head_of(rt, bill)?;
+        let opened = now(rt)?;
+        let Some((first, lines)) = record_lines(rt, words.file, words.patience.into())? else {
+            return Err(JobFault::Record(Refusal::no_main()));
         };
-        MainRecord {
-            backup: Backup::new(watch, words.patience),
+        match main_head(&night, first.as_slice()) {
+            Ok(head) => Ok(MainRecord {
+                words,
+                head,
+                lines,
+                last: opened,
+                has_begun: false,
+                typed: NightLines::new(),
+                input_ended: false,
+                ending: Ending::Silent,
+            }),
+            Err(unfit) => Err(JobFault::Record(Refusal::of_unfit_main(&unfit, &night))),
         }
     }
 
-    /// Where the operator is.
-    pub fn booth(&mut self) -> &mut LiveBooth<'a> {
-        &mut self.backup.watch.booth
-    }
-
-    /// The number of the newest line, from 1.
-    pub fn number(&self) -> u64 {
-        self.backup.watch.lines.number()
-    }
-
-    /// From now on lines are those that come.
-    pub fn follow(&mut self, now: Instant) {
-        self.backup.watch.last = now;
-        self.backup.watch.has_begun = true;
-    }
-
-    /// Tells at this moment of the night that it goes on by itself, and answers how long the newest
-    /// line has been there, in milliseconds.
-    pub fn lead(&mut self, moment: u64, now: Instant) -> u64 {
-        let why = self.backup.ending.words();
-        let watch = &mut self.backup.watch;
-        let passed = silence_of(now.duration_since(watch.last));
-        let line = leading_line(leading_moment(moment, passed), why);
-        watch.booth.screen().tell(line.as_str().as_bytes());
-        let rest = watch.typed.rest();
-        watch.booth.lead(now, rest, watch.input_ended);
-        passed
-    }
-
-    /// Tells that the main has ended the night.
-    pub fn tell_over(&mut self, moment: u64) {
-        let line = over_line(moment);
-        self.booth().screen().tell(line.as_str().as_bytes());
+    /// The main, at a place of its night.
+    pub fn night(&self, place: Place) -> MainNight<'w> {
+        MainNight {
+            file: self.words.file,
+            cid: self.head.cid,
+            priority: self.head.priority,
+            place,
+        }
     }
 }
 
-impl MainWatch for WatchedMain<'_> {
+/// Where a main is watched on this machine. It does not tell.
+#[derive(Drop)]
+pub struct WatchedMain<'m, 'w, 'a> {
+    pub rt: &'a HostRuntime,
+    pub main: &'m mut MainRecord<'w>,
+    pub booth: &'m mut LiveBooth<'a>,
+}
+
+impl MainWatch for WatchedMain<'_, '_, '_> {
     ghost tells = { λ _. ⊥ };
 
     ghost events = { λ _. [] };
@@ -104,50 +92,50 @@ impl MainWatch for WatchedMain<'_> {
     ghost left = { λ _. [] };
 
     fn typed_line(&mut self) -> Option<LineFront> {
-        self.typed.next_line()
+        self.main.typed.next_line()
     }
 
     fn next_line(&mut self) -> Option<LineFront> {
-        let line = self.lines.next_line()?;
+        let line = self.main.lines.next_line()?;
         if let Ok(now) = Instant::now(self.rt) {
-            self.last = now;
+            self.main.last = now;
         }
         Some(line)
     }
 
     fn look(&mut self) -> Result<bool, LinkFault> {
-        match self.lines.look() {
-            Ok(()) => Ok(self.lines.has_line()),
+        match self.main.lines.look() {
+            Ok(()) => Ok(self.main.lines.has_line()),
             Err(_) => Err(LinkFault),
         }
     }
 
     fn has_begun(&self) -> bool {
-        self.has_begun
+        self.main.has_begun
     }
 
     fn is_there(&mut self) -> bool {
-        self.lines.is_there(self.rt, self.file)
+        self.main.lines.is_there(self.rt, self.main.words.file)
     }
 
     fn time_passed(&mut self) -> Result<Duration, LinkFault> {
-        match self.last.elapsed(self.rt) {
+        match self.main.last.elapsed(self.rt) {
             Ok(passed) => Ok(passed),
             Err(_) => Err(LinkFault),
         }
     }
 
     fn wait(&mut self) -> Result<Came, LinkFault> {
-        let came = self.booth.wait_led(TURN, &mut self.typed)?;
+        let came = self.booth.wait_led(TURN, &mut self.main.typed)?;
         if came == Came::End {
-            self.input_ended = true;
+            self.main.input_ended = true;
         }
         Ok(came)
     }
 
     fn keep(&mut self, line: &LineFront) {
         self.booth
-            .keep_led(kept_line(line).as_slice(), !self.has_begun);
+            .keep_led(kept_line(line).as_slice(), !self.main.has_begun);
     }
 
     fn tell_missing(&mut self, line: &LineFront) {
@@ -165,15 +153,5 @@ impl MainWatch for WatchedMain<'_> {
 
     fn remind(&mut self) {
         self.booth.screen().tell(led_reminder_line().as_bytes());
-    }
-}
-
-impl MainConsole for MainRecord<'_> {
-    ghost tells = { λ _. ⊥ };
-
-    ghost given = { λ _. [] };
-
-    fn next(&mut self) -> Led {
-        self.backup.next()
     }
 }

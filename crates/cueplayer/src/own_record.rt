@@ -1,8 +1,13 @@
 ghost use Rattle.std.specs.Prelude.{[]};
 
-use cmd_live::{Led, MainConsole, PlayedRecord, Spare};
+use crate::device_failure::of_record;
+use crate::live_job::Playbill;
+use crate::opening::head_of;
+use crate::reading::{HEAD_PATIENCE, record_lines};
+use cmd_live::PlayedRecord;
 use devices::LinkFault;
-use night_record::LineFront;
+use night_record::{LineFront, NightOpening, own_head};
+use remarks::{JobFault, Refusal};
 use std::io::ErrorKind;
 use std::thread::sleep;
 use std::time::Duration;
@@ -11,71 +16,65 @@ use system_devices::{AppendedLines, RecordFault, RecordFile};
 // It is looked so often, in milliseconds, whether the night is still played.
 const TURN: u64 = 10;
 
-/// The record of a night that another process plays, until that has ended: then its file is locked,
-/// and each of its lines was given.
+/// The record of a night that another process plays, behind its head. It does not tell.
 #[derive(Drop)]
 pub struct OwnRecord<'a> {
-    spare: Spare<WatchedFile<'a>>,
-}
-
-// The file of the record. It does not tell.
-#[derive(Drop)]
-struct WatchedFile<'a> {
     rt: &'a HostRuntime,
     name: &'a str,
-    lines: AppendedLines,
+    pub lines: AppendedLines,
     file: RecordFile,
     fault: Option<RecordFault>,
 }
 
 impl<'a> OwnRecord<'a> {
-    /// The record in the file of this name, behind its head.
-    pub fn new(rt: &'a HostRuntime, name: &'a str, lines: AppendedLines, file: RecordFile) -> Self {
-        let record = WatchedFile {
+    /// Opens the record in the file of this name, where that is of this very night.
+    ///
+    /// # Errors
+    ///
+    /// Why it is not taken up.
+    pub fn open(
+        rt: &'a HostRuntime,
+        bill: &Playbill<'_, '_>,
+        name: &'a str,
+    ) -> Result<Self, JobFault> {
+        let night = head_of(rt, bill)?;
+        let Some((first, lines)) = record_lines(rt, name, HEAD_PATIENCE)? else {
+            return Err(JobFault::Record(Refusal::no_record()));
+        };
+        if let Err(unfit) = own_head(&night, first.as_slice()) {
+            return Err(JobFault::Record(Refusal::of_unfit(&unfit, &night)));
+        }
+        let file = RecordFile::watch(rt, name).map_err(|fault| of_record(name, fault))?;
+        Ok(OwnRecord {
             rt,
             name,
             lines,
             file,
             fault: None,
-        };
-        OwnRecord {
-            spare: Spare { record },
-        }
+        })
     }
 
-    /// The name of its file.
-    pub fn name(&self) -> &'a str {
-        self.spare.record.name
-    }
-
-    /// The number of the newest line, from 1.
-    pub fn number(&self) -> u64 {
-        self.spare.record.lines.number()
-    }
-
-    /// The file, locked, and how many of its bytes were given in lines; or why it cannot be kept.
-    pub fn into_file(self) -> Result<(RecordFile, u64), RecordFault> {
-        let OwnRecord { spare } = self;
-        let Spare { record } = spare;
-        record.into_file()
-    }
-}
-
-impl WatchedFile<'_> {
-    fn into_file(self) -> Result<(RecordFile, u64), RecordFault> {
-        let WatchedFile {
+    /// The file, locked, and how the night goes on behind what was given of it in lines.
+    ///
+    /// # Errors
+    ///
+    /// Why it cannot be kept.
+    pub fn into_file(self) -> Result<(RecordFile, NightOpening), JobFault> {
+        let OwnRecord {
             rt,
             name,
             lines,
             file,
             fault,
-            ..
         } = self;
-        match fault {
-            Some(fault) => Err(fault),
-            None if lines.is_there(rt, name) => Ok((file, lines.taken())),
-            None => Err(RecordFault::File(ErrorKind::NotFound)),
-        }
+        let fault = match fault {
+            None if lines.is_there(rt, name) => {
+                return Ok((file, NightOpening::behind(lines.taken() as usize)));
+            }
+            None => RecordFault::File(ErrorKind::NotFound),
+            Some(fault) => fault,
+        };
+        Err(of_record(name, fault))
     }
 
     fn fail<T>(&mut self, fault: RecordFault) -> Result<T, LinkFault> {
@@ -84,7 +83,7 @@ impl WatchedFile<'_> {
     }
 }
 
-impl PlayedRecord for WatchedFile<'_> {
+impl PlayedRecord for OwnRecord<'_> {
     ghost tells = { λ _. ⊥ };
 
     ghost events = { λ _. [] };
@@ -115,15 +114,5 @@ impl PlayedRecord for WatchedFile<'_> {
 
     fn wait_turn(&mut self) {
         sleep(self.rt, Duration::from_millis(TURN));
-    }
-}
-
-impl MainConsole for OwnRecord<'_> {
-    ghost tells = { λ _. ⊥ };
-
-    ghost given = { λ _. [] };
-
-    fn next(&mut self) -> Led {
-        self.spare.next()
     }
 }

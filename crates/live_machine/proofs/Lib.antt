@@ -1,1 +1,3 @@
 mod BoothOrder
+pub mod NightLaws
+pub mod NightOrder

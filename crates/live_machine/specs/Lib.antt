@@ -7,5 +7,9 @@ pub mod Failure
 pub mod Input
 pub mod InputEnd
 pub mod Kept
+pub mod MemoryNight
 pub mod NightDevices
+pub mod NightKinds
+pub mod NightLaws
 pub mod NightStart
+pub mod NightSteps

@@ -1,0 +1,253 @@
+ghost use Rattle.std.specs.Prelude.{[], OnOk};
+ghost use Rattle.cmd_live.specs.Stands.{IsPlayable};
+ghost use Rattle.cueplayer.specs.Opening.{CanFollow, playable};
+
+use crate::jobs::{night_end, run_end};
+use crate::link_watch::LinkTeller;
+use crate::live_devices::{Beginning, Descriptors, LiveDevices, now};
+use crate::live_job::{MainWords, Playbill};
+use crate::main_record::{MainRecord, WatchedMain};
+use crate::opening::{new_night, open_night};
+use crate::own_record::OwnRecord;
+use crate::start_lines::StartLines;
+use cmd_live::{Backup, Night, Pause, Silent, Spare};
+use devices::Link;
+use fade::{Fader, StepFader};
+use live_machine::{FollowEnd, MainLines, NightRole, NightSystem};
+use night_lines::{Place, Recording, leading_line, over_line};
+use night_record::{NightOpening, leading_moment, silence_of};
+use remarks::{Failure, JobFault, Refusal};
+use system_devices::RecordFile;
+
+/// A live night on this machine. It does not tell its steps.
+#[derive(Clone, Copy)]
+pub struct SystemNight<'a, 's> {
+    pub rt: &'a HostRuntime,
+    pub bill: Playbill<'a, 's>,
+}
+
+impl<'a> NightSystem for SystemNight<'a, '_> {
+    type Descriptors = Descriptors<'a>;
+
+    type MainName = MainWords<'a>;
+
+    type RecordName = &'a str;
+
+    type Main = MainRecord<'a>;
+
+    type PlayedRecord = Spare<OwnRecord<'a>>;
+
+    type RecordFile = (RecordFile, NightOpening);
+
+    type Devices = LiveDevices<'a>;
+
+    type Night = Night<StepFader>;
+
+    type Booth = Beginning<'a>;
+
+    type End = Result<(), Failure>;
+
+    type Fault = JobFault;
+
+    ghost tells = { λ _. ⊥ };
+
+    ghost steps = { λ _. [] };
+
+    ghost can_follow = { λ night. CanFollow ⟦<StepFader as Fader>⟧.stands_for night };
+
+    ghost is_playable = { λ night. IsPlayable ⟦<StepFader as Fader>⟧.stands_for night };
+
+    fn open_main(&mut self, name: MainWords<'a>) -> Result<MainRecord<'a>, JobFault> {
+        MainRecord::open(self.rt, &self.bill, name)
+    }
+
+    fn open_played_record(&mut self, name: &'a str) -> Result<Spare<OwnRecord<'a>>, JobFault> {
+        let record = OwnRecord::open(self.rt, &self.bill, name)?;
+        Ok(Spare { record })
+    }
+
+    fn take_up(
+        &mut self,
+        night: &mut Night<StepFader>,
+        played: &mut Spare<OwnRecord<'a>>,
+    ) -> Result<bool, JobFault> {
+        match night.follow(played, &mut Silent) {
+            Pause::Other => {
+                let number = played.record.lines.number();
+                Err(JobFault::Record(Refusal::spare_line(number)))
+            }
+            Pause::Ended => Ok(night.is_over()),
+            Pause::Asked => Ok(night.is_over()),
+        }
+    }
+
+    fn record_file(
+        &mut self,
+        played: Spare<OwnRecord<'a>>,
+    ) -> Result<(RecordFile, NightOpening), JobFault> {
+        played.record.into_file()
+    }
+
+    fn open_devices(&mut self, descriptors: Descriptors<'a>) -> Result<LiveDevices<'a>, JobFault> {
+        LiveDevices::open(self.rt, &self.bill, descriptors)
+    }
+
+    fn open_behind_record(
+        &mut self,
+        descriptors: Descriptors<'a>,
+        file: (RecordFile, NightOpening),
+    ) -> Result<LiveDevices<'a>, JobFault> {
+        LiveDevices::behind_record(self.rt, &self.bill, descriptors, file)
+    }
+
+    fn new_night(&mut self) -> Result<Night<StepFader>, JobFault> {
+        new_night(self.rt, &self.bill)
+    }
+
+    fn open_night(&mut self, devices: &LiveDevices<'a>) -> Result<Night<StepFader>, JobFault> {
+        open_night(self.rt, &self.bill, &devices.opening, devices.text())
+    }
+
+    fn begin(
+        &mut self,
+        devices: LiveDevices<'a>,
+        night: &Night<StepFader>,
+        role: NightRole,
+    ) -> Result<Beginning<'a>, JobFault> {
+        devices.begin(self.rt, &self.bill, place_of(night), role)
+    }
+
+    fn watch(&mut self, booth: &mut Beginning<'a>) {
+        booth.booth.watch(LinkTeller::new(self.rt, booth.network));
+    }
+
+    fn follow(
+        &mut self,
+        night: &mut Night<StepFader>,
+        main: &mut MainRecord<'a>,
+        booth: &mut Beginning<'a>,
+        lines: MainLines,
+    ) -> Result<FollowEnd, JobFault> {
+        let patience = main.words.patience;
+        let watch = WatchedMain {
+            rt: self.rt,
+            main,
+            booth: &mut booth.booth,
+        };
+        let mut backup = Backup::new(watch, patience);
+        match lines {
+            MainLines::Standing => follow_main(night, &mut backup, &mut Silent),
+            MainLines::Coming => follow_main(night, &mut backup, &mut booth.link),
+        }
+    }
+
+    fn show_place(&mut self, night: &Night<StepFader>, booth: &mut Beginning<'a>) {
+        night.show_place(&mut booth.booth, &booth.link);
+    }
+
+    fn tell_main(
+        &mut self,
+        night: &Night<StepFader>,
+        main: &MainRecord<'a>,
+        booth: &mut Beginning<'a>,
+    ) -> Result<(), JobFault> {
+        let Ok(network) = booth.network.try_borrow() else {
+            return Ok(());
+        };
+        let lines = StartLines {
+            night: self.bill.night,
+            show: self.bill.show,
+            network: &network,
+            recorded: self.bill.words.record_file.map(|file| Recording {
+                file,
+                resumes: false,
+                place: None,
+                is_cut: false,
+            }),
+            followed: Some(main.night(place_of(night))),
+        };
+        let told = lines.tell(self.rt, booth.booth.screen());
+        Ok(run_end(told, self.bill.show, None)?)
+    }
+
+    fn follow_on(&mut self, main: &mut MainRecord<'a>) -> Result<(), JobFault> {
+        main.last = now(self.rt)?;
+        main.has_begun = true;
+        Ok(())
+    }
+
+    fn tell_over(&mut self, night: &Night<StepFader>, booth: &mut Beginning<'a>) {
+        let line = over_line(night.moment());
+        booth.booth.screen().tell(line.as_str().as_bytes());
+    }
+
+    fn tell_lead(
+        &mut self,
+        night: &Night<StepFader>,
+        main: &mut MainRecord<'a>,
+        booth: &mut Beginning<'a>,
+    ) -> Result<(), JobFault> {
+        let now = now(self.rt)?;
+        booth.passed = silence_of(now.duration_since(main.last));
+        main.last = now;
+        let moment = leading_moment(night.moment(), booth.passed);
+        let line = leading_line(moment, main.ending.words());
+        booth.booth.screen().tell(line.as_str().as_bytes());
+        Ok(())
+    }
+
+    fn hand_over(&mut self, main: &mut MainRecord<'a>, booth: &mut Beginning<'a>) {
+        booth
+            .booth
+            .lead(main.last, main.typed.rest(), main.input_ended);
+    }
+
+    fn lead(
+        &mut self,
+        night: &mut Night<StepFader>,
+        booth: &mut Beginning<'a>,
+    ) -> Result<(), Failure> {
+        let answer = night.live(booth.passed, &mut booth.booth, &mut booth.link);
+        night_end(answer, self.bill.show, booth.network, None)
+    }
+
+    fn finish(&mut self, booth: &mut Beginning<'a>) {
+        booth.booth.finish();
+    }
+
+    ghost plays = { λ night can. playable _ night can };
+}
+
+// Follows a main over this link.
+fn follow_main<L: Link>(
+    night: &mut Night<StepFader>,
+    backup: &mut Backup<WatchedMain<'_, '_, '_>>,
+    link: &mut L,
+) -> Result<FollowEnd, JobFault>
+    requires { CanFollow ⟦<StepFader as Fader>⟧.stands_for night.old }
+    ensures { OnOk result (CanFollow ⟦<StepFader as Fader>⟧.stands_for night.new) }
+{
+    match night.follow(backup, link) {
+        Pause::Asked => Ok(FollowEnd::Asked),
+        Pause::Ended => {
+            backup.watch.main.ending = backup.ending;
+            Ok(if night.is_over() {
+                FollowEnd::Over
+            } else {
+                FollowEnd::Ended
+            })
+        }
+        Pause::Other => {
+            let number = backup.watch.main.lines.number();
+            Err(JobFault::Record(Refusal::main_line(number)))
+        }
+    }
+}
+
+// Where a night is.
+fn place_of(night: &Night<StepFader>) -> Place {
+    Place {
+        moment: night.moment(),
+        cue: night.console.current(),
+    }
+}

@@ -1,0 +1,111 @@
+-- In which order each kind of a live night goes: one that is played alone, a spare, and a backup
+-- behind a main.
+use Rattle.std.specs.Prelude.{ℕ, zero, suc, ◌<◌, true, false, List, [], ◌∷◌, ◌++◌}
+use Rattle.std.specs.Prelude.{Option, Some, None}
+use Rattle.live_machine.specs.declared.night_start.NightRole.TheVariants.{Leads, Follows}
+use Rattle.live_machine.specs.declared.night_system.MainLines.{MainLines}
+use Rattle.live_machine.specs.declared.night_system.MainLines.TheVariants.{Standing, Coming}
+use Rattle.live_machine.specs.declared.night_system.NightDeed.{NightDeed}
+use Rattle.live_machine.specs.declared.night_system.NightDeed.TheVariants as deed
+use Rattle.live_machine.specs.declared.night_system.NightStep.{NightStep}
+use Rattle.live_machine.specs.declared.night_kinds.BackupEnd.{BackupEnd}
+use Rattle.live_machine.specs.declared.night_kinds.BackupEnd.TheVariants.{WasOver, MainEnded, Led}
+
+-- it was done, or it was tried in vain
+abbrev pub done : NightDeed → NightStep
+done deed = record { deed = deed; is_done = true }
+
+abbrev pub failed : NightDeed → NightStep
+failed deed = record { deed = deed; is_done = false }
+
+-- each was done
+abbrev pub all_done : List NightDeed → List NightStep
+all_done [] = []
+all_done (deed ∷ deeds) = done deed ∷ all_done deeds
+
+-- so many were done, and the next one in vain; those behind it are not tried
+abbrev pub done_but : ℕ → List NightDeed → List NightStep
+done_but count [] = []
+done_but zero (deed ∷ deeds) = failed deed ∷ []
+done_but (suc count) (deed ∷ deeds) = done deed ∷ done_but count deeds
+
+-- a night leads: it begins, which is told; the network is watched; it is played; and then, whatever
+-- its end, the booth is finished
+abbrev pub leads : List NightDeed
+leads = deed.Begin Leads ∷ deed.Watch ∷ deed.Lead ∷ deed.Finish ∷ []
+
+-- a night alone has its devices, and in them its record, before it opens the show
+abbrev pub alone : List NightDeed
+alone = deed.Devices ∷ deed.Night ∷ leads
+
+-- a spare takes up a record, and opens nothing else, until the process that plays has ended
+abbrev pub stands_by : List NightDeed
+stands_by = deed.PlayedRecord ∷ deed.Night ∷ deed.TakeUp ∷ []
+
+-- the night ended with that process
+abbrev pub spare_was_over : List NightDeed
+spare_was_over = stands_by ++ deed.Over ∷ []
+
+-- it goes on: the file of the record comes before the other devices
+abbrev pub spare : List NightDeed
+spare = stands_by ++ deed.RecordFile ∷ deed.DevicesBehind ∷ leads
+
+-- a spare's night that ended like this, if it was played
+abbrev pub spare_steps : {E : Type 0} → Option E → List NightStep
+spare_steps None = all_done spare_was_over
+spare_steps (Some end) = all_done spare
+
+-- a backup has the record of its main before it opens anything else; it tells nothing of its start
+abbrev pub joins : List NightDeed
+joins = deed.Main ∷ deed.Devices ∷ deed.Night ∷ deed.Begin Follows ∷ deed.Watch ∷ []
+
+-- while it follows, the operator asked so many times where the night is, and each time that was
+-- shown
+abbrev pub asked : ℕ → MainLines → List NightStep
+asked zero lines = []
+asked (suc times) lines =
+    done (deed.Follow lines) ∷ done deed.Asked ∷ done deed.Place ∷ asked times lines
+
+-- it took up, over no link, what stood in the main's record when it came, and then went on like
+-- this
+abbrev pub caught_up : ℕ → List NightStep → List NightStep
+caught_up times steps =
+    all_done joins ++ asked times Standing ++ done (deed.Follow Standing) ∷ steps
+
+-- and it told the operator whom it follows: only then it follows over its own link, as far as that
+-- goes
+abbrev pub follows : ℕ → ℕ → List NightStep → List NightStep
+follows times later steps =
+    caught_up times (done deed.MainLine ∷ done deed.FollowOn ∷ asked later Coming ++ steps)
+
+-- a backup's night that ended like this
+abbrev pub backup_steps : {E : Type 0} → ℕ → ℕ → BackupEnd E → List NightStep
+backup_steps times later WasOver = caught_up times (done deed.Over ∷ [])
+backup_steps times later MainEnded = follows times later
+    (all_done (deed.Follow Coming ∷ deed.Over ∷ deed.OverLine ∷ deed.Finish ∷ []))
+backup_steps times later (Led end) = follows times later (all_done
+    (deed.Follow Coming ∷ deed.LeadLine ∷ deed.HandOver ∷ deed.Lead ∷ deed.Finish ∷ []))
+
+-- where a backup's night stopped: at one of its first deeds; at a line in what stood in the main's
+-- record; where it was to tell whom it follows; at the clock, before it followed on; at a line that
+-- came; at the clock, where it was to lead
+pub data BackupStop : Type 0 where
+  in_joining : (count : ℕ) → count < 4 → BackupStop
+  in_standing : (times : ℕ) → BackupStop
+  in_telling : (times : ℕ) → BackupStop
+  in_following_on : (times : ℕ) → BackupStop
+  in_coming : (times later : ℕ) → BackupStop
+  in_leading : (times later : ℕ) → BackupStop
+
+-- what was done by then; the booth is finished where the night was played to its nodes
+abbrev pub stopped_steps : BackupStop → List NightStep
+stopped_steps (in_joining count few) = done_but count joins
+stopped_steps (in_standing times) =
+    all_done joins ++ asked times Standing ++ failed (deed.Follow Standing) ∷ []
+stopped_steps (in_telling times) = caught_up times (failed deed.MainLine ∷ [])
+stopped_steps (in_following_on times) =
+    caught_up times (done deed.MainLine ∷ failed deed.FollowOn ∷ [])
+stopped_steps (in_coming times later) =
+    follows times later (failed (deed.Follow Coming) ∷ done deed.Finish ∷ [])
+stopped_steps (in_leading times later) = follows times later
+    (done (deed.Follow Coming) ∷ failed deed.LeadLine ∷ done deed.Finish ∷ [])
