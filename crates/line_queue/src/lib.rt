@@ -4,7 +4,8 @@
 //! for which there is no room is dropped, and a [`Notice`] at its place says how many lines were.
 //! Where another process writes the output's file, [`open_way`] opens the pipe to it,
 //! [`owed_bytes`] are those that the file does not have yet, and [`wait_for_writers`] waits for
-//! them. A [`Screen`] hands on the replies of a night before its messages.
+//! them. A [`Screen`] hands on the replies of a night before its messages, and a [`RecordKeeper`]
+//! keeps its record. An output that may be closed is a [`LineOutput`].
 //!
 //! ```
 //! let notice = Notice { mark: "! ", lines: "lines" };
