@@ -1,5 +1,5 @@
-use Rattle.std.proofs.Common.{◌++◌, ◌∷◌, [], ◌∙◌, option_map, refl, sym, ap, arith}
-use Rattle.byte_reading.proofs.SoFar.{no_end, no_line, no_more, one_line}
+use Rattle.std.proofs.Common.{◌++◌, ◌∷◌, [], ◌∙◌, option_map, refl, sym, ap}
+use Rattle.byte_reading.proofs.SoFar.{no_line, one_line}
 use Rattle.network_tables.specs.Routes.{name_seen}
 use Rattle.network_tables.specs.Tables.{row_name, with_other}
 use Rattle.network_tables.specs.declared.table.Cards.{Cards}

@@ -1,8 +1,11 @@
-use Rattle.cmd_cues.proofs.Terms.{all_read, arith, no_line, no_more, one_line, refl, rules}
+use Rattle.cmd_cues.proofs.Terms.{◌≡◌, [], all_read, ap, arith, last_label_by, no_line, no_more}
+use Rattle.cmd_cues.proofs.Terms.{one_line, refl, rules}
 use Rattle.cmd_cues.proofs.labels.Labels.read.Goals as goal
 
 pub loop-line-init : goal.loop-line-init
-loop-line-init c = no_line (search rules) (refl, λ r kind. refl)
+loop-line-init c =
+    let empty : c.new.result.items ≡ [] = search rules in
+    no_line (search rules) (refl, λ r kind. ap (last_label_by r kind) empty)
 
 pub returns-then-line-lines : goal.returns-then-line-lines
 returns-then-line-lines c = (all_read c.loop-line.invariant c.in-Some.ensures.steps
