@@ -1,5 +1,6 @@
 pub mod Hosts
 pub mod NetworkSteps
+pub mod KeptSteps
 pub mod NetworkLooks
 pub mod NetworkOpens
 pub mod PathLooks
