@@ -7,6 +7,7 @@ mod lock;
 mod machine;
 mod memory;
 mod night_devices;
+mod night_kinds;
 mod opening;
 mod packet;
 mod queue;
