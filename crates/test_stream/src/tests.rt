@@ -8,6 +8,7 @@ mod lock;
 mod machine;
 mod memory;
 mod night_devices;
+mod night_kinds;
 mod opening;
 mod packet;
 mod queue;
