@@ -17,9 +17,7 @@ use cmd_show::{check, look, slots};
 use cmd_words::{Job, Name, Night, source_name};
 use devices::Output;
 use fade::StepFader;
-use remarks::{
-    Failure, JobFault, LostPacket, of_seeming, plain, strict_end, tell_listening,
-};
+use remarks::{Failure, JobFault, LostPacket, of_seeming, plain, strict_end, tell_listening};
 use sacn_packet::SourceName;
 use sacn_source::Identity;
 use show_reader::read_show;

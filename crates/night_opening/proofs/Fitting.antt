@@ -27,7 +27,7 @@ no_number base (x ∷ xs) (suc i) within over =
 pub fits : (night : Night) (show : List ℕ) (s : Tables) (result : Result Unit JobFault)
     → IsShowOf (statements_of desk_limits show) s
     → SuitsNumbers night.targets (numbers_of (universes night.base (patch_ordinals s.patch))) show
-        result
+    result
     → IsFit night show result
 fits night show s (Ok done) is suits = of_its_show show (λ t. SuitsNumbers night.targets
     (numbers_of (universes night.base (patch_ordinals t.patch))) show (Ok done)) s is suits

@@ -34,11 +34,7 @@ pub fn check_targets(alloc: Global, night: &Night, text: &[u8]) -> Result<(), Jo
     }
 }
 
-fn check_universes(
-    night: &Night,
-    ordinals: &ArrayVec<u16, 16>,
-    text: &[u8],
-) -> Result<(), JobFault>
+fn check_universes(night: &Night, ordinals: &ArrayVec<u16, 16>, text: &[u8]) -> Result<(), JobFault>
     ensures { SuitsNumbers night.now.targets
         (numbers_of (spec.universes night.now.base ordinals.now.items)) text.now result }
 {

@@ -9,11 +9,19 @@ returns-then-universe-gt65535 c =
     let base = c.args.base in
     let ordinals = c.args.ordinals.now.items in
     let at = c.loop-ordinal.ordinal-index in
-    let within : at < length ordinals = omega (arith, c.loop-ordinal-test.true,
-    ap length c.as_slice-ordinal-items.ensures.value) in
+    let within : at < length ordinals = omega (
+      arith,
+      c.loop-ordinal-test.true,
+      ap length c.as_slice-ordinal-items.ensures.value,
+    ) in
     let over : 65535 < base + get_or ordinals at 0 =
-    grind (arith, nat_tests, c.if-universe-gt65535.true, c.from.ensures,
-    c.from-in-loop-ordinal.ensures) in
+    grind (
+      arith,
+      nat_tests,
+      c.if-universe-gt65535.true,
+      c.from.ensures,
+      c.from-in-loop-ordinal.ensures,
+    ) in
     let lacks : have_numbers (universes base ordinals) ≡ false =
     no_number base ordinals at within over in
     rw lacks refl
