@@ -1,8 +1,8 @@
 -- What lines say of labels, one line after the other.
-use Rattle.cmd_cues.proofs.Terms.{◌≡◌, ℕ, ◌+◌, ◌≤◌, ◌&&◌, true, false, cond, List, [], ◌∷◌, ◌++◌}
-use Rattle.cmd_cues.proofs.Terms.{length, reverse, take, refl, sym, ap, subst, ◌∙◌, Option, Some}
+use Rattle.cmd_cues.proofs.Terms.{◌≡◌, ℕ, ◌&&◌, true, false, cond, List, [], ◌∷◌, ◌++◌}
+use Rattle.cmd_cues.proofs.Terms.{refl, sym, ap, ◌∙◌, Option, Some}
 use Rattle.cmd_cues.proofs.Terms.{None, option_to_list, unwrap_or, option_or, append-nil}
-use Rattle.cmd_cues.proofs.Terms.{fold-append, reverse_aux, is_word, lines_of, numbered_from}
+use Rattle.cmd_cues.proofs.Terms.{fold-append, is_word}
 use Rattle.cmd_cues.proofs.Terms.{words_of, Reading, Record, Statement, Opens, Quiet, may_own}
 use Rattle.cmd_cues.proofs.Terms.{desk_limits, record_opened, line_reading, Is, Silent, after}
 use Rattle.cmd_cues.proofs.Terms.{same_record, Words, owner_after, owner_below, said_under}
