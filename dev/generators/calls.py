@@ -53,6 +53,10 @@ class Call(NamedTuple):
     def can_refuse(self) -> bool:
         return bool(re.search("-> (Result|Option)<", self.said))
 
+    def does_something(self) -> bool:
+        """Whether it answers, or may change what it is given."""
+        return "->" in self.said or "&mut" in self.said
+
     def row(self, refuses: str, only_tested: str) -> str:
         """Its row of a table, with the two cells that may be written by hand."""
         cells = [
