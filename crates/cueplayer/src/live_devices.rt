@@ -4,7 +4,7 @@ use crate::cards::open_network;
 use crate::device_failure::{of_device_fault, of_lock_fault, of_record};
 use crate::jobs::{NO_LOCK, link_of, run_end};
 use crate::live_booth::LiveBooth;
-use crate::live_job::Playbill;
+use crate::live_job::{LiveWords, Playbill};
 use crate::opening::opening_of;
 use crate::screen::{Replies, Screen, open_replies};
 use crate::standard::Standard;
@@ -44,8 +44,13 @@ pub struct LiveDevices<'a> {
     pub opening: NightOpening,
     lock: Option<CidLock>,
     network: Network,
-    // Where the network lies once the night has begun.
-    slot: &'a mut Option<RefCell<Network>>,
+}
+
+/// The same, and where its network comes to lie.
+#[derive(Drop)]
+pub struct NightDevices<'a> {
+    pub devices: LiveDevices<'a>,
+    pub slot: &'a mut Option<RefCell<Network>>,
 }
 
 /// A live night that has begun.
@@ -70,14 +75,14 @@ impl<'a> LiveDevices<'a> {
     pub fn open(
         rt: &HostRuntime,
         bill: &Playbill<'_, '_>,
-        descriptors: Descriptors<'a>,
+        standard: Standard<'a>,
     ) -> Result<Self, JobFault> {
         let (file, behind) = open_devices(&mut SystemDevices { rt, bill })?;
         let opening = match &file {
             Some(file) => opening_of(rt, bill, file.text())?,
             None => NightOpening::none(),
         };
-        Ok(LiveDevices::of(rt, descriptors, file, opening, behind))
+        Ok(LiveDevices::of(rt, standard, file, opening, behind))
     }
 
     /// With the file of a record that is open, and how that goes on.
@@ -88,21 +93,21 @@ impl<'a> LiveDevices<'a> {
     pub fn behind_record(
         rt: &HostRuntime,
         bill: &Playbill<'_, '_>,
-        descriptors: Descriptors<'a>,
+        standard: Standard<'a>,
         (file, opening): (RecordFile, NightOpening),
     ) -> Result<Self, JobFault> {
         let behind = open_behind_record(&mut SystemDevices { rt, bill })?;
-        Ok(LiveDevices::of(rt, descriptors, Some(file), opening, behind))
+        Ok(LiveDevices::of(rt, standard, Some(file), opening, behind))
     }
 
     fn of(
         rt: &HostRuntime,
-        descriptors: Descriptors<'a>,
+        standard: Standard<'a>,
         file: Option<RecordFile>,
         opening: NightOpening,
         behind: OpenDevices<Replies, Option<CidLock>, Network>,
     ) -> Self {
-        let Standard { input, messages } = descriptors.standard;
+        let Standard { input, messages } = standard;
         let OpenDevices {
             screen,
             cid_lock,
@@ -116,7 +121,6 @@ impl<'a> LiveDevices<'a> {
             opening,
             lock: cid_lock,
             network,
-            slot: descriptors.network,
         }
     }
 
@@ -128,18 +132,19 @@ impl<'a> LiveDevices<'a> {
         }
     }
 
-    /// Begins the night, and its record, in the order of [`start_night`].
+    /// Starts the night, and its record, in the order of [`start_night`]: the devices of the night,
+    /// and how long its record had not been written.
     ///
     /// # Errors
     ///
     /// Where memory is refused, or the clock or the record fails.
-    pub fn begin(
+    pub fn start(
         mut self,
-        rt: &'a HostRuntime,
+        rt: &HostRuntime,
         bill: &Playbill<'_, '_>,
         place: Place,
         role: NightRole,
-    ) -> Result<Beginning<'a>, JobFault> {
+    ) -> Result<(Self, Pause), JobFault> {
         let mut start = SystemStart {
             rt,
             bill,
@@ -147,24 +152,69 @@ impl<'a> LiveDevices<'a> {
             devices: &mut self,
         };
         let pause = start_night(&mut start, role)?;
+        Ok((self, pause))
+    }
+
+    // Tells how the night begins.
+    fn tell_lines(
+        &mut self,
+        rt: &HostRuntime,
+        bill: &Playbill<'_, '_>,
+        place: Place,
+    ) -> Result<(), Failure> {
+        let recorded = self.recording(bill.words, place);
+        let LiveDevices {
+            network,
+            screen,
+            ..
+        } = self;
+        let lines = StartLines {
+            night: bill.night,
+            show: bill.show,
+            network: &*network,
+            recorded,
+            followed: None,
+        };
+        run_end(lines.tell(rt, screen), bill.show, None)
+    }
+
+    // Where the night is recorded, and from where it goes on there.
+    fn recording<'w>(&self, words: LiveWords<'w>, place: Place) -> Option<Recording<'w>> {
+        let record = self.file.as_ref()?;
+        let lines = &self.opening.lines;
+        Some(Recording {
+            file: words.record_file?,
+            resumes: words.resumes,
+            place: lines.goes_on().then_some(place),
+            is_cut: lines.has_cut_line(record.length()),
+        })
+    }
+
+    /// The night that has begun after this pause.
+    pub fn begin(
+        self,
+        rt: &'a HostRuntime,
+        bill: &Playbill<'_, '_>,
+        pause: Pause,
+        slot: &'a mut Option<RefCell<Network>>,
+    ) -> Beginning<'a> {
         let LiveDevices {
             input,
             screen,
             record,
             lock,
             network,
-            slot,
             ..
         } = self;
         let input = NightInput::new(input, bill.words.ends_with_input);
         let network: &RefCell<Network> = slot.insert(RefCell::new(network));
-        Ok(Beginning {
+        Beginning {
             booth: LiveBooth::new(rt, pause.until, input, record, screen),
             link: link_of(rt, network, bill.night),
             network,
             passed: pause.milliseconds,
             lock,
-        })
+        }
     }
 }
 
@@ -223,20 +273,6 @@ struct SystemStart<'d, 'a, 'w, 's> {
     devices: &'d mut LiveDevices<'a>,
 }
 
-impl<'w> SystemStart<'_, '_, 'w, '_> {
-    // Where the night is recorded, and from where it goes on there.
-    fn recording(&self) -> Option<Recording<'w>> {
-        let record = self.devices.file.as_ref()?;
-        let lines = &self.devices.opening.lines;
-        Some(Recording {
-            file: self.bill.words.record_file?,
-            resumes: self.bill.words.resumes,
-            place: lines.goes_on().then_some(self.place),
-            is_cut: lines.has_cut_line(record.length()),
-        })
-    }
-}
-
 // It does not tell its steps.
 impl StartSystem for SystemStart<'_, '_, '_, '_> {
     type Pause = Pause;
@@ -260,17 +296,7 @@ impl StartSystem for SystemStart<'_, '_, '_, '_> {
     }
 
     fn tell_lines(&mut self) -> Result<(), JobFault> {
-        let recorded = self.recording();
-        let devices = &mut *self.devices;
-        let lines = StartLines {
-            night: self.bill.night,
-            show: self.bill.show,
-            network: &devices.network,
-            recorded,
-            followed: None,
-        };
-        let told = lines.tell(self.rt, &mut devices.screen);
-        Ok(run_end(told, self.bill.show, None)?)
+        Ok(self.devices.tell_lines(self.rt, self.bill, self.place)?)
     }
 
     // A night that begins does so now.

@@ -65,6 +65,11 @@ impl<'w> MainRecord<'w> {
         }
     }
 
+    // Whether its name still leads to the record, and that has all lines that were given.
+    fn is_there(&self, rt: &HostRuntime) -> bool {
+        self.lines.is_there(rt, self.words.file)
+    }
+
     /// The main, at a place of its night.
     pub fn night(&self, place: Place) -> MainNight<'w> {
         MainNight {
@@ -115,7 +120,7 @@ impl MainWatch for WatchedMain<'_, '_, '_> {
     }
 
     fn is_there(&mut self) -> bool {
-        self.main.lines.is_there(self.rt, self.main.words.file)
+        self.main.is_there(self.rt)
     }
 
     fn time_passed(&mut self) -> Result<Duration, LinkFault> {
@@ -126,11 +131,7 @@ impl MainWatch for WatchedMain<'_, '_, '_> {
     }
 
     fn wait(&mut self) -> Result<Came, LinkFault> {
-        let came = self.booth.wait_led(TURN, &mut self.main.typed)?;
-        if came == Came::End {
-            self.main.input_ended = true;
-        }
-        Ok(came)
+        wait_for_typed(self.booth, self.main)
     }
 
     fn keep(&mut self, line: &LineFront) {
@@ -154,4 +155,12 @@ impl MainWatch for WatchedMain<'_, '_, '_> {
     fn remind(&mut self) {
         self.booth.screen().tell(led_reminder_line().as_bytes());
     }
+}
+
+fn wait_for_typed(booth: &mut LiveBooth<'_>, main: &mut MainRecord<'_>) -> Result<Came, LinkFault> {
+    let came = booth.wait_led(TURN, &mut main.typed)?;
+    if came == Came::End {
+        main.input_ended = true;
+    }
+    Ok(came)
 }

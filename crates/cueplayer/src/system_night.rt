@@ -1,10 +1,11 @@
-ghost use Rattle.std.specs.Prelude.{[], OnOk};
+ghost use Rattle.std.specs.Prelude.{[]};
 ghost use Rattle.cmd_live.specs.Stands.{IsPlayable};
 ghost use Rattle.cueplayer.specs.Opening.{CanFollow, playable};
 
 use crate::jobs::{night_end, run_end};
 use crate::link_watch::LinkTeller;
-use crate::live_devices::{Beginning, Descriptors, LiveDevices, now};
+use crate::live_booth::LiveBooth;
+use crate::live_devices::{Beginning, Descriptors, LiveDevices, NightDevices, now};
 use crate::live_job::{MainWords, Playbill};
 use crate::main_record::{MainRecord, WatchedMain};
 use crate::opening::{new_night, open_night};
@@ -39,7 +40,7 @@ impl<'a> NightSystem for SystemNight<'a, '_> {
 
     type RecordFile = (RecordFile, NightOpening);
 
-    type Devices = LiveDevices<'a>;
+    type Devices = NightDevices<'a>;
 
     type Night = Night<StepFader>;
 
@@ -88,33 +89,46 @@ impl<'a> NightSystem for SystemNight<'a, '_> {
         played.record.into_file()
     }
 
-    fn open_devices(&mut self, descriptors: Descriptors<'a>) -> Result<LiveDevices<'a>, JobFault> {
-        LiveDevices::open(self.rt, &self.bill, descriptors)
+    fn open_devices(&mut self, descriptors: Descriptors<'a>) -> Result<NightDevices<'a>, JobFault> {
+        let Descriptors { standard, network } = descriptors;
+        let devices = LiveDevices::open(self.rt, &self.bill, standard)?;
+        Ok(NightDevices {
+            devices,
+            slot: network,
+        })
     }
 
     fn open_behind_record(
         &mut self,
         descriptors: Descriptors<'a>,
         file: (RecordFile, NightOpening),
-    ) -> Result<LiveDevices<'a>, JobFault> {
-        LiveDevices::behind_record(self.rt, &self.bill, descriptors, file)
+    ) -> Result<NightDevices<'a>, JobFault> {
+        let Descriptors { standard, network } = descriptors;
+        let devices = LiveDevices::behind_record(self.rt, &self.bill, standard, file)?;
+        Ok(NightDevices {
+            devices,
+            slot: network,
+        })
     }
 
     fn new_night(&mut self) -> Result<Night<StepFader>, JobFault> {
         new_night(self.rt, &self.bill)
     }
 
-    fn open_night(&mut self, devices: &LiveDevices<'a>) -> Result<Night<StepFader>, JobFault> {
+    fn open_night(&mut self, devices: &NightDevices<'a>) -> Result<Night<StepFader>, JobFault> {
+        let devices = &devices.devices;
         open_night(self.rt, &self.bill, &devices.opening, devices.text())
     }
 
     fn begin(
         &mut self,
-        devices: LiveDevices<'a>,
+        devices: NightDevices<'a>,
         night: &Night<StepFader>,
         role: NightRole,
     ) -> Result<Beginning<'a>, JobFault> {
-        devices.begin(self.rt, &self.bill, place_of(night), role)
+        let NightDevices { devices, slot } = devices;
+        let (devices, pause) = devices.start(self.rt, &self.bill, place_of(night), role)?;
+        Ok(devices.begin(self.rt, &self.bill, pause, slot))
     }
 
     fn watch(&mut self, booth: &mut Beginning<'a>) {
@@ -128,16 +142,19 @@ impl<'a> NightSystem for SystemNight<'a, '_> {
         booth: &mut Beginning<'a>,
         lines: MainLines,
     ) -> Result<FollowEnd, JobFault> {
-        let patience = main.words.patience;
-        let watch = WatchedMain {
-            rt: self.rt,
-            main,
-            booth: &mut booth.booth,
+        let Beginning { booth, link, .. } = booth;
+        let pause = match lines {
+            MainLines::Standing => follow_lines(self.rt, night, main, booth, &mut Silent),
+            MainLines::Coming => follow_lines(self.rt, night, main, booth, link),
         };
-        let mut backup = Backup::new(watch, patience);
-        match lines {
-            MainLines::Standing => follow_main(night, &mut backup, &mut Silent),
-            MainLines::Coming => follow_main(night, &mut backup, &mut booth.link),
+        match pause {
+            Pause::Asked => Ok(FollowEnd::Asked),
+            Pause::Ended if night.is_over() => Ok(FollowEnd::Over),
+            Pause::Ended => Ok(FollowEnd::Ended),
+            Pause::Other => {
+                let number = main.lines.number();
+                Err(JobFault::Record(Refusal::main_line(number)))
+            }
         }
     }
 
@@ -218,30 +235,23 @@ impl<'a> NightSystem for SystemNight<'a, '_> {
     ghost plays = { λ night can. playable _ night can };
 }
 
-// Follows a main over this link.
-fn follow_main<L: Link>(
+// Follows a main over this link, and notes why that ended.
+fn follow_lines<'a, L: Link>(
+    rt: &'a HostRuntime,
     night: &mut Night<StepFader>,
-    backup: &mut Backup<WatchedMain<'_, '_, '_>>,
+    main: &mut MainRecord<'_>,
+    booth: &mut LiveBooth<'a>,
     link: &mut L,
-) -> Result<FollowEnd, JobFault>
+) -> Pause
     requires { CanFollow ⟦<StepFader as Fader>⟧.stands_for night.old }
-    ensures { OnOk result (CanFollow ⟦<StepFader as Fader>⟧.stands_for night.new) }
+    ensures { CanFollow ⟦<StepFader as Fader>⟧.stands_for night.new }
 {
-    match night.follow(backup, link) {
-        Pause::Asked => Ok(FollowEnd::Asked),
-        Pause::Ended => {
-            backup.watch.main.ending = backup.ending;
-            Ok(if night.is_over() {
-                FollowEnd::Over
-            } else {
-                FollowEnd::Ended
-            })
-        }
-        Pause::Other => {
-            let number = backup.watch.main.lines.number();
-            Err(JobFault::Record(Refusal::main_line(number)))
-        }
-    }
+    let patience = main.words.patience;
+    let mut backup = Backup::new(WatchedMain { rt, main, booth }, patience);
+    let pause = night.follow(&mut backup, link);
+    let ending = backup.ending;
+    main.ending = ending;
+    pause
 }
 
 // Where a night is.
