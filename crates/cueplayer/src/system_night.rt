@@ -1,4 +1,4 @@
-ghost use Rattle.std.specs.Prelude.{[]};
+ghost use Rattle.std.specs.Prelude.{[], OnOk, OnSome};
 ghost use Rattle.cmd_live.specs.Stands.{IsPlayable};
 ghost use Rattle.cueplayer.specs.Opening.{CanFollow, playable};
 
@@ -6,7 +6,7 @@ use crate::jobs::{night_end, run_end};
 use crate::link_watch::LinkTeller;
 use crate::live_booth::LiveBooth;
 use crate::live_devices::{Beginning, Descriptors, LiveDevices, NightDevices, now};
-use crate::live_job::{MainWords, Playbill};
+use crate::live_job::{LiveWords, MainWords, Playbill};
 use crate::main_record::{MainRecord, WatchedMain};
 use crate::opening::{new_night, open_night};
 use crate::own_record::OwnRecord;
@@ -72,14 +72,8 @@ impl<'a> NightSystem for SystemNight<'a, '_> {
         night: &mut Night<StepFader>,
         played: &mut Spare<OwnRecord<'a>>,
     ) -> Result<bool, JobFault> {
-        match night.follow(played, &mut Silent) {
-            Pause::Other => {
-                let number = played.record.lines.number();
-                Err(JobFault::Record(Refusal::spare_line(number)))
-            }
-            Pause::Ended => Ok(night.is_over()),
-            Pause::Asked => Ok(night.is_over()),
-        }
+        follow_record(night, played)?;
+        Ok(night.is_over())
     }
 
     fn record_file(
@@ -143,18 +137,9 @@ impl<'a> NightSystem for SystemNight<'a, '_> {
         lines: MainLines,
     ) -> Result<FollowEnd, JobFault> {
         let Beginning { booth, link, .. } = booth;
-        let pause = match lines {
+        match lines {
             MainLines::Standing => follow_lines(self.rt, night, main, booth, &mut Silent),
             MainLines::Coming => follow_lines(self.rt, night, main, booth, link),
-        };
-        match pause {
-            Pause::Asked => Ok(FollowEnd::Asked),
-            Pause::Ended if night.is_over() => Ok(FollowEnd::Over),
-            Pause::Ended => Ok(FollowEnd::Ended),
-            Pause::Other => {
-                let number = main.lines.number();
-                Err(JobFault::Record(Refusal::main_line(number)))
-            }
         }
     }
 
@@ -175,12 +160,7 @@ impl<'a> NightSystem for SystemNight<'a, '_> {
             night: self.bill.night,
             show: self.bill.show,
             network: &network,
-            recorded: self.bill.words.record_file.map(|file| Recording {
-                file,
-                resumes: false,
-                place: None,
-                is_cut: false,
-            }),
+            recorded: new_record(self.bill.words),
             followed: Some(main.night(place_of(night))),
         };
         let told = lines.tell(self.rt, booth.booth.screen());
@@ -242,16 +222,74 @@ fn follow_lines<'a, L: Link>(
     main: &mut MainRecord<'_>,
     booth: &mut LiveBooth<'a>,
     link: &mut L,
-) -> Pause
+) -> Result<FollowEnd, JobFault>
     requires { CanFollow ⟦<StepFader as Fader>⟧.stands_for night.old }
-    ensures { CanFollow ⟦<StepFader as Fader>⟧.stands_for night.new }
+    ensures { OnOk result (CanFollow ⟦<StepFader as Fader>⟧.stands_for night.new) }
 {
     let patience = main.words.patience;
     let mut backup = Backup::new(WatchedMain { rt, main, booth }, patience);
-    let pause = night.follow(&mut backup, link);
+    let end = follow_backup(night, &mut backup, link);
     let ending = backup.ending;
     main.ending = ending;
-    pause
+    match end {
+        Some(end) => Ok(end),
+        None => {
+            let number = main.lines.number();
+            Err(JobFault::Record(Refusal::main_line(number)))
+        }
+    }
+}
+
+// `None` at a line that a night like this does not give.
+fn follow_backup<L: Link>(
+    night: &mut Night<StepFader>,
+    backup: &mut Backup<WatchedMain<'_, '_, '_>>,
+    link: &mut L,
+) -> Option<FollowEnd>
+    requires { CanFollow ⟦<StepFader as Fader>⟧.stands_for night.old }
+    ensures { OnSome result (CanFollow ⟦<StepFader as Fader>⟧.stands_for night.new) }
+{
+    match night.follow(backup, link) {
+        Pause::Asked => Some(FollowEnd::Asked),
+        Pause::Ended => Some(end_of(night)),
+        Pause::Other => None,
+    }
+}
+
+fn end_of(night: &Night<StepFader>) -> FollowEnd {
+    if night.is_over() {
+        FollowEnd::Over
+    } else {
+        FollowEnd::Ended
+    }
+}
+
+// Follows a record over no link.
+fn follow_record(
+    night: &mut Night<StepFader>,
+    played: &mut Spare<OwnRecord<'_>>,
+) -> Result<(), JobFault>
+    requires { CanFollow ⟦<StepFader as Fader>⟧.stands_for night.old }
+    ensures { OnOk result (CanFollow ⟦<StepFader as Fader>⟧.stands_for night.new) }
+{
+    match night.follow(played, &mut Silent) {
+        Pause::Other => {
+            let number = played.record.lines.number();
+            Err(JobFault::Record(Refusal::spare_line(number)))
+        }
+        Pause::Ended => Ok(()),
+        Pause::Asked => Ok(()),
+    }
+}
+
+// Where a night of these words is recorded, if anywhere, that begins.
+fn new_record<'w>(words: LiveWords<'w>) -> Option<Recording<'w>> {
+    Some(Recording {
+        file: words.record_file?,
+        resumes: false,
+        place: None,
+        is_cut: false,
+    })
 }
 
 // Where a night is.
