@@ -78,6 +78,8 @@ IN_THE_PROGRAM = {
     "open": "test_refused_growths.RefusedGrowths.test_play",
     "read_words": "test_refused_growths.RefusedGrowths.test_words",
     "lock_path": "test_refused_growths.RefusedGrowths.test_live",
+    "take_cid_lock": "test_refused_growths.RefusedGrowths.test_live",
+    "check_targets": "test_refused_growths.RefusedGrowths.test_targets",
     "name_on": "test_refused_growths.RefusedGrowths.test_live",
     "node_text": "test_refused_growths.RefusedGrowths.test_record_in_use",
 }

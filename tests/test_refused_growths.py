@@ -89,6 +89,12 @@ class RefusedGrowths(Growths):
         words = ["play", self.show, *TO_NOBODY]
         self.assertEachRefused(words, b"0 go\n0 tick\n25 sub 1 50\n25 tick\n50 end\n50 tick\n")
 
+    def test_targets(self):
+        """Two targets, for which the show is read to see whether they suit it."""
+        two = ("127.0.0.1:9", "127.0.0.2:9")
+        words = ["play", self.show, "--to", *two, "--cid", CID]
+        self.assertEachRefused(words, b"0 tick\n25 end\n25 tick\n")
+
     def test_live(self):
         """A night that is over after three ticks."""
         self.assertEachRefused(["live", self.show, *TO_NOBODY], b"go\nend\n")
