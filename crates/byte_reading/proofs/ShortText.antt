@@ -9,7 +9,7 @@ use Rattle.std.proofs.lemmas.Bool.Decides.{nat_tests}
 use Rattle.std.proofs.lemmas.Grind.{common_steps}
 use Rattle.ascii_text.specs.Text.{is_newline, lines_of}
 use Rattle.byte_reading.specs.ShortLines.{AllLinesLaw, GivesByte, GivesLine, GivesNone}
-use Rattle.byte_reading.specs.ShortLines.{short, short_lines, shown}
+use Rattle.byte_reading.specs.ShortLines.{short, short_lines, shown_byte}
 
 one_more : (n : ℕ) → 1 + n ≡ suc n
 one_more n = omega arith
@@ -43,7 +43,7 @@ behind-more byte rest e =
     rw (e, at) refl
 
 -- what is shown is ASCII
-pub shown_ascii : (byte : ℕ) → shown byte < 128
+pub shown_ascii : (byte : ℕ) → shown_byte byte < 128
 shown_ascii byte = grind (arith, nat_tests)
 
 -- what does not fit is cut, now or later
@@ -58,7 +58,7 @@ cut-all n line h = grind (arith, common_steps)
 -- the bytes of a line so far, of which there are n, and what is left of the text
 pub record IsBegun (text rest line : List ℕ) (n : ℕ) : Type 0 where
   pub front : short (before_first is_newline text)
-      ≡ take 160 (line ++ map shown (before_first is_newline rest))
+      ≡ take 160 (line ++ map shown_byte (before_first is_newline rest))
   pub behind : after_first is_newline text ≡ after_first is_newline rest
   pub count : length text ≡ n + length rest
   pub long : length line ≡ min n 160
@@ -79,23 +79,23 @@ begins (Some text) = record {
 
 pub goes_on : (old now new : Option (List ℕ)) (line more : List ℕ) (n byte : ℕ)
     → Begun old now line n → GivesByte now new (Some byte) → is_newline byte ≡ false
-    → more ≡ take 160 (line ++ shown byte ∷ []) → Begun old new more (n + 1)
+    → more ≡ take 160 (line ++ shown_byte byte ∷ []) → Begun old new more (n + 1)
 goes_on None now new line more n byte b g e is = tt
 goes_on (Some text) None new line more n byte b g e is = absurd b
 goes_on (Some text) (Some rest) None line more n byte b g e is = absurd g
 goes_on (Some text) (Some rest) (Some last) line more n byte b g e is =
     let before = ap (before_first is_newline) g ∙ before-more byte last e in
     let behind = ap (after_first is_newline) g ∙ behind-more byte last e in
-    let all = map shown (before_first is_newline last) in
+    let all = map shown_byte (before_first is_newline last) in
     record {
-      front = b.front ∙ ap (λ l. take 160 (line ++ map shown l)) before
-          ∙ sym (ap (take 160) (append_assoc line (shown byte ∷ []) all))
-          ∙ sym (cut-more 160 (line ++ shown byte ∷ []) all)
+      front = b.front ∙ ap (λ l. take 160 (line ++ map shown_byte l)) before
+          ∙ sym (ap (take 160) (append_assoc line (shown_byte byte ∷ []) all))
+          ∙ sym (cut-more 160 (line ++ shown_byte byte ∷ []) all)
           ∙ ap (λ l. take 160 (l ++ all)) (sym is);
       behind = b.behind ∙ behind;
       count = let one = ap length g in omega (arith, b.count, one);
-      long = ap length is ∙ length-take 160 (line ++ shown byte ∷ [])
-          ∙ omega (arith, b.long, length-append line (shown byte ∷ []));
+      long = ap length is ∙ length-take 160 (line ++ shown_byte byte ∷ [])
+          ∙ omega (arith, b.long, length-append line (shown_byte byte ∷ []));
     }
 
 -- at an LF
@@ -111,7 +111,7 @@ ends_line (Some text) (Some rest) (Some last) line n byte b g e =
     let one = ap length is in
     let within : length line ≤ 160 = omega (arith, b.long) in (
       omega (arith, b.count, one),
-      sym (b.front ∙ ap (λ l. take 160 (line ++ map shown l)) before ∙ cut-all 160 line within),
+      sym (b.front ∙ ap (λ l. take 160 (line ++ map shown_byte l)) before ∙ cut-all 160 line within),
       ap Some (sym (b.behind ∙ behind)),
     )
 
@@ -126,7 +126,7 @@ ends_text (Some text) (Some rest) (Some last) line n b g h =
     let behind : after_first is_newline rest ≡ [] = ap (after_first is_newline) g.1 in
     let within : length line ≤ 160 = omega (arith, b.long) in (
       omega (arith, b.count, b.long),
-      sym (b.front ∙ ap (λ l. take 160 (line ++ map shown l)) before ∙ cut-all 160 line within),
+      sym (b.front ∙ ap (λ l. take 160 (line ++ map shown_byte l)) before ∙ cut-all 160 line within),
       ap Some (g.0 ∙ g.1 ∙ sym (b.behind ∙ behind)),
     )
 

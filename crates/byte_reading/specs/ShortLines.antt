@@ -6,12 +6,12 @@ use Rattle.std.specs.Io.KnownBytes.{Consumes, IsAtEnd, Keeps}
 use Rattle.ascii_text.specs.Text.{is_newline, lines_of}
 
 -- what stands for a byte: itself where it is printable ASCII, and a blank otherwise
-abbrev pub shown : ℕ → ℕ
-shown byte = if nat_le 32 byte && nat_le byte 126 then byte else 32
+abbrev pub shown_byte : ℕ → ℕ
+shown_byte byte = if nat_le 32 byte && nat_le byte 126 then byte else 32
 
 -- a line as it is given: at most its first 160 bytes, each as it is shown
 abbrev pub short : List ℕ → List ℕ
-short line = take 160 (map shown line)
+short line = take 160 (map shown_byte line)
 
 -- all lines of a text, each as it is given
 abbrev pub short_lines : List ℕ → List (List ℕ)

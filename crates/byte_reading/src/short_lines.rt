@@ -1,6 +1,6 @@
 ghost use Rattle.std.specs.Prelude.{◌≡◌, ◌∷◌, ◌++◌, [], IfNone, IfOk, IfSome, OnErr, take};
 ghost use Rattle.byte_reading.specs.LinesLeft.{bytes_left, source};
-ghost use Rattle.byte_reading.specs.ShortLines.{GivesByte, GivesLine, GivesNone, shown};
+ghost use Rattle.byte_reading.specs.ShortLines.{GivesByte, GivesLine, GivesNone, shown_byte};
 
 use crate::ahead::Ahead;
 use crate::block_source::BlockSource;
@@ -68,15 +68,15 @@ impl<B: BlockSource> ShortLines<B> {
 
 // One byte more of a line, as far as there is room.
 fn push_shown(line: &mut ShortLine, byte: u8)
-    ensures { line.new.bytes ≡ take 160 (line.old.bytes ++ shown byte ∷ []) }
+    ensures { line.new.bytes ≡ take 160 (line.old.bytes ++ shown_byte byte ∷ []) }
 {
     if !line.is_full() {
-        line.push(char::from(shown(byte)));
+        line.push(char::from(shown_byte(byte)));
     }
 }
 
-fn shown(byte: u8) -> u8
-    ensures { result ≡ shown byte }
+fn shown_byte(byte: u8) -> u8
+    ensures { result ≡ shown_byte byte }
 {
     match byte {
         b' '..=b'~' => byte,

@@ -7,7 +7,7 @@ use Rattle.cmd_listen.proofs.Terms.{fault_of, front_packet, WirePacket, Ignored,
 use Rattle.cmd_listen.proofs.Terms.{Unreadable, live, Entry, is_accepted, is_taken, is_there}
 use Rattle.cmd_listen.proofs.Terms.{last_moment, newest, record_of, records, same_cid}
 use Rattle.cmd_listen.proofs.Terms.{accepted_entry, ignore_reason, is_termination, source_reason}
-use Rattle.cmd_listen.proofs.Terms.{source_refusal, unheard, find_records, found_in, In_filter}
+use Rattle.cmd_listen.proofs.Terms.{source_refusal, off_reason, find_records, found_in, In_filter}
 use Rattle.cmd_listen.proofs.Terms.{In_length, Instant, Source, Mark, mark_in, mark_of, source_of}
 use Rattle.cmd_listen.proofs.Terms.{with_source, without_cid, Knowledge, known_after, after_look}
 use Rattle.cmd_listen.proofs.Terms.{looked_after, after_datagram, met_after, new_known}
@@ -128,7 +128,7 @@ was_accepted : (universe t : ℕ) (h : List Entry) (d : List ℕ)
 was_accepted universe t h d none =
     let p = front_packet d in
     not_refused h t p.fields.sequence p.fields.cid
-    (none_last (unheard universe p) (source_refusal 4 h t p.fields.cid p.fields.sequence)
+    (none_last (off_reason universe p) (source_refusal 4 h t p.fields.cid p.fields.sequence)
     (none_last (option_map Unreadable (fault_of d)) _
     (none_else (nat_lt t (last_moment h)) Backwards _ none)))
 

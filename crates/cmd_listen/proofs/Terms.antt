@@ -13,7 +13,7 @@ pub use Rattle.sacn_receiver.specs.declared.answer.Ignored.{Ignored}
 pub use Rattle.sacn_receiver.specs.Source.{Entry, last_moment, is_accepted, is_taken, is_there}
 pub use Rattle.sacn_receiver.specs.Source.{newest, record_of, records, same_cid}
 pub use Rattle.sacn_receiver.specs.Taking.{accepted_entry, ignore_reason, is_termination}
-pub use Rattle.sacn_receiver.specs.Taking.{source_reason, source_refusal, unheard, answer}
+pub use Rattle.sacn_receiver.specs.Taking.{source_reason, source_refusal, off_reason, answer}
 pub use Rattle.sacn_receiver.specs.Taking.{history_after}
 pub use Rattle.cmd_listen.specs.Listening.{history_at_0, listen_text, GaveAll, Listens}
 pub use Rattle.cmd_listen.specs.Listening.{DeviceFailed, SlotsFailed, replies, reply_line}

@@ -2,12 +2,12 @@
 use Rattle.std.proofs.Common.{◌≡◌, refl, ℕ, zero, suc, true, false}
 use Rattle.std.proofs.Common.{List, ◌∷◌, ◌++◌}
 use Rattle.std.specs.Prelude.{Option, Some, None, ⊤}
-use Rattle.live_machine.specs.NightKinds.{BackupStop, all_done, asked, backup_steps, done, done_but}
+use Rattle.live_machine.specs.NightKinds.{BackupStop, all_done, place_turns, backup_steps, success, done_but}
 use Rattle.live_machine.specs.NightKinds.{joins, spare, spare_steps, stopped_steps}
 use Rattle.live_machine.specs.NightKinds as stop
 use Rattle.live_machine.specs.NightLaws.{BackupNightLaw, IsFinished, IsRight, SpareNightLaw}
-use Rattle.live_machine.specs.NightLaws.{catches_up, is_finish, is_over, is_taken_up, none}
-use Rattle.live_machine.specs.NightLaws.{none_before, none_behind, opens, sends, times_of}
+use Rattle.live_machine.specs.NightLaws.{catches_up, is_finish, is_over_deed, is_taken_up, none}
+use Rattle.live_machine.specs.NightLaws.{none_before, none_behind, opens, is_send, times_of}
 use Rattle.live_machine.specs.declared.night_kinds.BackupEnd.{BackupEnd}
 use Rattle.live_machine.specs.declared.night_kinds.BackupEnd.TheVariants.{WasOver, MainEnded, Led}
 use Rattle.live_machine.specs.declared.night_system.MainLines.TheVariants.{Coming, Standing}
@@ -20,11 +20,11 @@ spare_ended : (end : Option ⊤) → none_before is_taken_up opens (spare_steps 
 spare_ended None = refl
 spare_ended (Some end) = refl
 
-spare_unopened : (end : Option ⊤) → none_behind is_over opens (spare_steps end) ≡ true
+spare_unopened : (end : Option ⊤) → none_behind is_over_deed opens (spare_steps end) ≡ true
 spare_unopened None = refl
 spare_unopened (Some end) = refl
 
-spare_unsent : (end : Option ⊤) → none_behind is_over sends (spare_steps end) ≡ true
+spare_unsent : (end : Option ⊤) → none_behind is_over_deed is_send (spare_steps end) ≡ true
 spare_unsent None = refl
 spare_unsent (Some end) = refl
 
@@ -50,7 +50,7 @@ spare_night_law = record {
 -- ---- a backup: what it does before it tells whom it follows changes nothing
 
 asked_right : (times : ℕ) (steps : List NightStep) → IsRight steps
-    → IsRight (asked times Standing ++ steps)
+    → IsRight (place_turns times Standing ++ steps)
 asked_right zero steps h = h
 asked_right (suc times) steps h =
     let rest = asked_right times steps h in record {
@@ -69,38 +69,38 @@ joined_right steps h = record {
 }
 
 standing_right : (times : ℕ) (steps : List NightStep) → IsRight steps
-    → IsRight (all_done joins ++ asked times Standing ++ steps)
+    → IsRight (all_done joins ++ place_turns times Standing ++ steps)
 standing_right times steps h = joined_right _ (asked_right times steps h)
 
 -- ---- and while it follows over its own link
 
 asked_none_caught : (later : ℕ) (steps : List NightStep)
-    → none catches_up steps ≡ true → none catches_up (asked later Coming ++ steps) ≡ true
+    → none catches_up steps ≡ true → none catches_up (place_turns later Coming ++ steps) ≡ true
 asked_none_caught zero steps h = h
 asked_none_caught (suc later) steps h = asked_none_caught later steps h
 
 asked_over : (later : ℕ) (steps : List NightStep)
-    → none_behind is_over sends steps ≡ true
-    → none_behind is_over sends (asked later Coming ++ steps) ≡ true
+    → none_behind is_over_deed is_send steps ≡ true
+    → none_behind is_over_deed is_send (place_turns later Coming ++ steps) ≡ true
 asked_over zero steps h = h
 asked_over (suc later) steps h = asked_over later steps h
 
 asked_sends : (later : ℕ) (steps : List NightStep)
-    → none sends steps ≡ false → none sends (asked later Coming ++ steps) ≡ false
+    → none is_send steps ≡ false → none is_send (place_turns later Coming ++ steps) ≡ false
 asked_sends zero steps h = h
 asked_sends (suc later) steps h = refl
 
 asked_finishes : (later : ℕ) (steps : List NightStep) (count : ℕ)
     → times_of is_finish steps ≡ count
-    → times_of is_finish (asked later Coming ++ steps) ≡ count
+    → times_of is_finish (place_turns later Coming ++ steps) ≡ count
 asked_finishes zero steps count h = h
 asked_finishes (suc later) steps count h = asked_finishes later steps count h
 
 coming_right : (later : ℕ) (steps : List NightStep) → none catches_up steps ≡ true
-    → none_behind is_over sends steps ≡ true → none sends steps ≡ false
+    → none_behind is_over_deed is_send steps ≡ true → none is_send steps ≡ false
     → times_of is_finish steps ≡ 1
-    → IsRight (done (deed.Follow Standing) ∷ done deed.MainLine ∷ done deed.FollowOn
-    ∷ asked later Coming ++ steps)
+    → IsRight (success (deed.Follow Standing) ∷ success deed.MainLine ∷ success deed.FollowOn
+    ∷ place_turns later Coming ++ steps)
 coming_right later steps caught over sent finished = record {
   told_first = refl;
   caught_up = asked_none_caught later steps caught;

@@ -12,30 +12,30 @@ behind_record = Screen ∷ CidLock ∷ Network ∷ []
 
 -- of a night that is on, its record's file is told, so the record comes before the lock of the CID;
 -- no socket is opened before both are had
-abbrev pub in_order : List NightDevice
-in_order = Record ∷ behind_record
+abbrev pub device_order : List NightDevice
+device_order = Record ∷ behind_record
 
 -- it was asked for, and whether it was had
-abbrev pub asked_for : NightDevice → Bool → DeviceStep
-asked_for device is_had = record { device = device; is_open = is_had }
+abbrev pub device_step : NightDevice → Bool → DeviceStep
+device_step device is_had = record { device = device; is_open = is_had }
 
 -- it was opened, or it was not had
-abbrev pub opened : NightDevice → DeviceStep
-opened device = asked_for device true
+abbrev pub open_step : NightDevice → DeviceStep
+open_step device = device_step device true
 
-abbrev pub missed : NightDevice → DeviceStep
-missed device = asked_for device false
+abbrev pub missing_step : NightDevice → DeviceStep
+missing_step device = device_step device false
 
 -- each was opened
 abbrev pub all_opened : List NightDevice → List DeviceStep
 all_opened [] = []
-all_opened (device ∷ devices) = opened device ∷ all_opened devices
+all_opened (device ∷ devices) = open_step device ∷ all_opened devices
 
 -- so many were opened, and the next one was not had; those behind it are not asked for
 abbrev pub opened_but : ℕ → List NightDevice → List DeviceStep
 opened_but count [] = []
-opened_but zero (device ∷ devices) = missed device ∷ []
-opened_but (suc count) (device ∷ devices) = opened device ∷ opened_but count devices
+opened_but zero (device ∷ devices) = missing_step device ∷ []
+opened_but (suc count) (device ∷ devices) = open_step device ∷ opened_but count devices
 
 -- a device over memory is had, unless it is the missing one
 abbrev pub is_had : Option NightDevice → NightDevice → Bool

@@ -12,31 +12,31 @@ use Rattle.live_machine.specs.declared.night_kinds.BackupEnd.{BackupEnd}
 use Rattle.live_machine.specs.declared.night_kinds.BackupEnd.TheVariants.{WasOver, MainEnded, Led}
 
 -- it was done, or it was tried in vain
-abbrev pub done : NightDeed → NightStep
-done deed = record { deed = deed; is_done = true }
+abbrev pub success : NightDeed → NightStep
+success deed = record { deed = deed; is_done = true }
 
-abbrev pub failed : NightDeed → NightStep
-failed deed = record { deed = deed; is_done = false }
+abbrev pub failure : NightDeed → NightStep
+failure deed = record { deed = deed; is_done = false }
 
 -- each was done
 abbrev pub all_done : List NightDeed → List NightStep
 all_done [] = []
-all_done (deed ∷ deeds) = done deed ∷ all_done deeds
+all_done (deed ∷ deeds) = success deed ∷ all_done deeds
 
 -- so many were done, and the next one in vain; those behind it are not tried
 abbrev pub done_but : ℕ → List NightDeed → List NightStep
 done_but count [] = []
-done_but zero (deed ∷ deeds) = failed deed ∷ []
-done_but (suc count) (deed ∷ deeds) = done deed ∷ done_but count deeds
+done_but zero (deed ∷ deeds) = failure deed ∷ []
+done_but (suc count) (deed ∷ deeds) = success deed ∷ done_but count deeds
 
 -- a night leads: it begins, which is told; the network is watched; it is played; and then, whatever
 -- its end, the booth is finished
-abbrev pub leads : List NightDeed
-leads = deed.Begin Leads ∷ deed.Watch ∷ deed.Lead ∷ deed.Finish ∷ []
+abbrev pub lead_deeds : List NightDeed
+lead_deeds = deed.Begin Leads ∷ deed.Watch ∷ deed.Lead ∷ deed.Finish ∷ []
 
 -- a night alone has its devices, and in them its record, before it opens the show
 abbrev pub alone : List NightDeed
-alone = deed.Devices ∷ deed.Night ∷ leads
+alone = deed.Devices ∷ deed.Night ∷ lead_deeds
 
 -- a spare takes up a record, and opens nothing else, until the process that plays has ended
 abbrev pub stands_by : List NightDeed
@@ -48,7 +48,7 @@ spare_was_over = stands_by ++ deed.Over ∷ []
 
 -- it goes on: the file of the record comes before the other devices
 abbrev pub spare : List NightDeed
-spare = stands_by ++ deed.RecordFile ∷ deed.DevicesBehind ∷ leads
+spare = stands_by ++ deed.RecordFile ∷ deed.DevicesBehind ∷ lead_deeds
 
 -- a spare's night that ended like this, if it was played
 abbrev pub spare_steps : {E : Type 0} → Option E → List NightStep
@@ -61,26 +61,26 @@ joins = deed.Main ∷ deed.Devices ∷ deed.Night ∷ deed.Begin Follows ∷ dee
 
 -- while it follows, the operator asked so many times where the night is, and each time that was
 -- shown
-abbrev pub asked : ℕ → MainLines → List NightStep
-asked zero lines = []
-asked (suc times) lines =
-    done (deed.Follow lines) ∷ done deed.Asked ∷ done deed.Place ∷ asked times lines
+abbrev pub place_turns : ℕ → MainLines → List NightStep
+place_turns zero lines = []
+place_turns (suc times) lines =
+    success (deed.Follow lines) ∷ success deed.Asked ∷ success deed.Place ∷ place_turns times lines
 
 -- it took up, over no link, what stood in the main's record when it came, and then went on like
 -- this
 abbrev pub caught_up : ℕ → List NightStep → List NightStep
 caught_up times steps =
-    all_done joins ++ asked times Standing ++ done (deed.Follow Standing) ∷ steps
+    all_done joins ++ place_turns times Standing ++ success (deed.Follow Standing) ∷ steps
 
 -- and it told the operator whom it follows: only then it follows over its own link, as far as that
 -- goes
 abbrev pub follows : ℕ → ℕ → List NightStep → List NightStep
 follows times later steps =
-    caught_up times (done deed.MainLine ∷ done deed.FollowOn ∷ asked later Coming ++ steps)
+    caught_up times (success deed.MainLine ∷ success deed.FollowOn ∷ place_turns later Coming ++ steps)
 
 -- a backup's night that ended like this
 abbrev pub backup_steps : {E : Type 0} → ℕ → ℕ → BackupEnd E → List NightStep
-backup_steps times later WasOver = caught_up times (done deed.Over ∷ [])
+backup_steps times later WasOver = caught_up times (success deed.Over ∷ [])
 backup_steps times later MainEnded = follows times later
     (all_done (deed.Follow Coming ∷ deed.Over ∷ deed.OverLine ∷ deed.Finish ∷ []))
 backup_steps times later (Led end) = follows times later (all_done
@@ -101,11 +101,11 @@ pub data BackupStop : Type 0 where
 abbrev pub stopped_steps : BackupStop → List NightStep
 stopped_steps (in_joining count few) = done_but count joins
 stopped_steps (in_standing times) =
-    all_done joins ++ asked times Standing ++ failed (deed.Follow Standing) ∷ []
-stopped_steps (in_telling times) = caught_up times (failed deed.MainLine ∷ [])
+    all_done joins ++ place_turns times Standing ++ failure (deed.Follow Standing) ∷ []
+stopped_steps (in_telling times) = caught_up times (failure deed.MainLine ∷ [])
 stopped_steps (in_following_on times) =
-    caught_up times (done deed.MainLine ∷ failed deed.FollowOn ∷ [])
+    caught_up times (success deed.MainLine ∷ failure deed.FollowOn ∷ [])
 stopped_steps (in_coming times later) =
-    follows times later (failed (deed.Follow Coming) ∷ done deed.Finish ∷ [])
+    follows times later (failure (deed.Follow Coming) ∷ success deed.Finish ∷ [])
 stopped_steps (in_leading times later) = follows times later
-    (done (deed.Follow Coming) ∷ failed deed.LeadLine ∷ done deed.Finish ∷ [])
+    (success (deed.Follow Coming) ∷ failure deed.LeadLine ∷ success deed.Finish ∷ [])

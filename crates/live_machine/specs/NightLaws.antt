@@ -12,10 +12,10 @@ use Rattle.live_machine.specs.declared.night_system.NightDeed.TheVariants.{MainL
 use Rattle.live_machine.specs.declared.night_system.NightStep.{NightStep}
 
 -- packets leave
-abbrev pub sends : NightDeed → Bool
-sends (Follow Coming) = true
-sends Lead = true
-sends deed = false
+abbrev pub is_send : NightDeed → Bool
+is_send (Follow Coming) = true
+is_send Lead = true
+is_send deed = false
 
 -- sockets are opened, and the lock of the CID is asked for
 abbrev pub opens : NightDeed → Bool
@@ -38,9 +38,9 @@ abbrev pub is_taken_up : NightDeed → Bool
 is_taken_up TakeUp = true
 is_taken_up deed = false
 
-abbrev pub is_over : NightDeed → Bool
-is_over Over = true
-is_over deed = false
+abbrev pub is_over_deed : NightDeed → Bool
+is_over_deed Over = true
+is_over_deed deed = false
 
 abbrev pub is_finish : NightDeed → Bool
 is_finish Finish = true
@@ -71,15 +71,15 @@ times_of such (step ∷ steps) =
 
 -- the booth is finished once where packets may have left, and else not
 abbrev pub IsFinished : List NightStep → Type 0
-IsFinished steps = times_of is_finish steps ≡ (if none sends steps then 0 else 1)
+IsFinished steps = times_of is_finish steps ≡ (if none is_send steps then 0 else 1)
 
 -- a backup sends nothing before it told the operator whom it follows, and what stood in its main's
 -- record was taken up before that; a night that is over sends nothing; the booth is finished once
 -- if the night was played
 pub record IsRight (steps : List NightStep) : Type 0 where
-  pub told_first : none_before is_main_told sends steps ≡ true
+  pub told_first : none_before is_main_told is_send steps ≡ true
   pub caught_up : none_behind is_main_told catches_up steps ≡ true
-  pub over : none_behind is_over sends steps ≡ true
+  pub over : none_behind is_over_deed is_send steps ≡ true
   pub finished : IsFinished steps
 
 -- A BACKUP'S NIGHT, however it ends and wherever it stops
@@ -93,6 +93,6 @@ pub record BackupNightLaw : Type 0 where
 pub record SpareNightLaw : Type 0 where
   pub ended : (end : Option ⊤) → none_before is_taken_up opens (spare_steps end) ≡ true
   pub stopped : (count : ℕ) → none_before is_taken_up opens (done_but count spare) ≡ true
-  pub unopened : (end : Option ⊤) → none_behind is_over opens (spare_steps end) ≡ true
-  pub unsent : (end : Option ⊤) → none_behind is_over sends (spare_steps end) ≡ true
+  pub unopened : (end : Option ⊤) → none_behind is_over_deed opens (spare_steps end) ≡ true
+  pub unsent : (end : Option ⊤) → none_behind is_over_deed is_send (spare_steps end) ≡ true
   pub finished : (end : Option ⊤) → IsFinished (spare_steps end)

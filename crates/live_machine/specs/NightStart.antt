@@ -15,8 +15,8 @@ abbrev pub before_pause : NightRole → List StartStep
 before_pause role = step.MissingLocks ∷ told_start role
 
 -- all steps: the file of a record shows how long nobody wrote to it until the record is begun or cut
-abbrev pub started : NightRole → List StartStep
-started role = before_pause role ++ step.Pause true ∷ step.Record true ∷ []
+abbrev pub whole_start : NightRole → List StartStep
+whole_start role = before_pause role ++ step.Pause true ∷ step.Record true ∷ []
 
 -- the start of a night that leads could not be told
 abbrev pub stopped_at_lines : List StartStep

@@ -1,6 +1,6 @@
 ghost use Rattle.std.specs.Prelude.{◌≡◌, ◌<◌, ℕ, List, [], ◌∷◌, ◌++◌, OnOk, OnErr};
-ghost use Rattle.live_machine.specs.NightDevices.{all_opened, behind_record, in_order, missed};
-ghost use Rattle.live_machine.specs.NightDevices.{opened, opened_but};
+ghost use Rattle.live_machine.specs.NightDevices.{all_opened, behind_record, device_order, missing_step};
+ghost use Rattle.live_machine.specs.NightDevices.{open_step, opened_but};
 ghost use Rattle.live_machine.specs.declared.night_devices.DeviceStep.{DeviceStep as StepOf};
 ghost use Rattle.live_machine.specs.declared.night_devices.NightDevice.TheVariants as device;
 
@@ -52,9 +52,9 @@ pub trait DeviceSystem {
     fn open_record(&mut self) -> Result<Self::Record, Self::Fault>
         ensures told { tells self.new → tells self.old }
         ensures ok { OnOk result (tells self.new
-            → steps self.new ≡ steps self.old ++ opened device.Record ∷ []) }
+            → steps self.new ≡ steps self.old ++ open_step device.Record ∷ []) }
         ensures err { OnErr result (tells self.new
-            → steps self.new ≡ steps self.old ++ missed device.Record ∷ []) };
+            → steps self.new ≡ steps self.old ++ missing_step device.Record ∷ []) };
 
     /// Opens the screen.
     ///
@@ -64,9 +64,9 @@ pub trait DeviceSystem {
     fn open_screen(&mut self) -> Result<Self::Screen, Self::Fault>
         ensures told { tells self.new → tells self.old }
         ensures ok { OnOk result (tells self.new
-            → steps self.new ≡ steps self.old ++ opened device.Screen ∷ []) }
+            → steps self.new ≡ steps self.old ++ open_step device.Screen ∷ []) }
         ensures err { OnErr result (tells self.new
-            → steps self.new ≡ steps self.old ++ missed device.Screen ∷ []) };
+            → steps self.new ≡ steps self.old ++ missing_step device.Screen ∷ []) };
 
     /// Takes the lock of the CID.
     ///
@@ -76,9 +76,9 @@ pub trait DeviceSystem {
     fn take_cid_lock(&mut self) -> Result<Self::CidLock, Self::Fault>
         ensures told { tells self.new → tells self.old }
         ensures ok { OnOk result (tells self.new
-            → steps self.new ≡ steps self.old ++ opened device.CidLock ∷ []) }
+            → steps self.new ≡ steps self.old ++ open_step device.CidLock ∷ []) }
         ensures err { OnErr result (tells self.new
-            → steps self.new ≡ steps self.old ++ missed device.CidLock ∷ []) };
+            → steps self.new ≡ steps self.old ++ missing_step device.CidLock ∷ []) };
 
     /// Opens the sockets.
     ///
@@ -88,9 +88,9 @@ pub trait DeviceSystem {
     fn open_network(&mut self) -> Result<Self::Network, Self::Fault>
         ensures told { tells self.new → tells self.old }
         ensures ok { OnOk result (tells self.new
-            → steps self.new ≡ steps self.old ++ opened device.Network ∷ []) }
+            → steps self.new ≡ steps self.old ++ open_step device.Network ∷ []) }
         ensures err { OnErr result (tells self.new
-            → steps self.new ≡ steps self.old ++ missed device.Network ∷ []) };
+            → steps self.new ≡ steps self.old ++ missing_step device.Network ∷ []) };
 }
 
 /// The devices behind a record.

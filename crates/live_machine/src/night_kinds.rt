@@ -1,6 +1,6 @@
 ghost use Rattle.std.specs.Prelude.{◌≡◌, ◌<◌, ◌⊎◌, ℕ, ◌++◌, ◌∷◌, [], IfOk, OnOk, OnErr};
-ghost use Rattle.live_machine.specs.NightKinds.{BackupStop, all_done, alone, asked, backup_steps};
-ghost use Rattle.live_machine.specs.NightKinds.{done, done_but, failed, joins, leads, spare};
+ghost use Rattle.live_machine.specs.NightKinds.{BackupStop, all_done, alone, place_turns, backup_steps};
+ghost use Rattle.live_machine.specs.NightKinds.{success, done_but, failure, joins, lead_deeds, spare};
 ghost use Rattle.live_machine.specs.NightKinds.{spare_steps, stopped_steps};
 ghost use Rattle.live_machine.specs.NightLaws.{BackupNightLaw, SpareNightLaw};
 ghost use Rattle.live_machine.specs.NightSteps.{followed_till, led_on};
@@ -135,7 +135,7 @@ fn lead_night<S: NightSystem>(
     ensures ok { OnOk result (S.tells system.new
         → S.steps system.new ≡ S.steps system.old ++ all_done leads) }
     ensures err { OnErr result (S.tells system.new
-        → S.steps system.new ≡ S.steps system.old ++ failed (deed.Begin Leads) ∷ []) }
+        → S.steps system.new ≡ S.steps system.old ++ failure (deed.Begin Leads) ∷ []) }
 {
     let mut booth = system.begin(devices, night, NightRole::Leads)?;
     system.watch(&mut booth);
@@ -181,7 +181,7 @@ fn follow_till<S: NightSystem>(
         × (S.steps system.new ≡ S.steps system.old ++ followed_till times lines is_over)) }
     ensures err { OnErr result (S.tells system.new → (times : ℕ)
         × (S.steps system.new
-        ≡ S.steps system.old ++ asked times lines ++ failed (deed.Follow lines) ∷ [])) }
+        ≡ S.steps system.old ++ place_turns times lines ++ failure (deed.Follow lines) ∷ [])) }
 {
     for _turn in 0..u64::MAX {
         match system.follow(night, main, booth, lines)? {
@@ -206,9 +206,9 @@ fn follow_and_lead<S: NightSystem>(
         × (S.steps system.new ≡ S.steps system.old ++ led_on later end)) }
     ensures err { OnErr result (S.tells system.new → (later : ℕ)
         × ((S.steps system.new
-        ≡ S.steps system.old ++ asked later Coming ++ failed (deed.Follow Coming) ∷ [])
-        ⊎ (S.steps system.new ≡ S.steps system.old ++ asked later Coming
-        ++ done (deed.Follow Coming) ∷ failed deed.LeadLine ∷ []))) }
+        ≡ S.steps system.old ++ place_turns later Coming ++ failure (deed.Follow Coming) ∷ [])
+        ⊎ (S.steps system.new ≡ S.steps system.old ++ place_turns later Coming
+        ++ success (deed.Follow Coming) ∷ failure deed.LeadLine ∷ []))) }
 {
     if follow_till(system, night, main, booth, MainLines::Coming)? {
         system.tell_over(night, booth);

@@ -1,5 +1,5 @@
 ghost use Rattle.std.specs.Prelude.{◌≡◌, ◌⊎◌, List, [], ◌∷◌, ◌++◌, OnOk, OnErr, true, false};
-ghost use Rattle.live_machine.specs.NightStart.{started, stopped_at_lines, stopped_at_pause};
+ghost use Rattle.live_machine.specs.NightStart.{whole_start, stopped_at_lines, stopped_at_pause};
 ghost use Rattle.live_machine.specs.NightStart.{stopped_at_record};
 ghost use Rattle.live_machine.specs.declared.night_start.NightRole.TheVariants as whose;
 ghost use Rattle.live_machine.specs.declared.night_start.StartStep.{StartStep as StepOf};
@@ -92,7 +92,7 @@ pub trait StartSystem {
 pub fn start_night<S: StartSystem>(system: &mut S, role: NightRole) -> Result<S::Pause, S::Fault>
     ensures told { S.tells system.new → S.tells system.old }
     ensures ok { OnOk result (S.tells system.new
-        → S.steps system.new ≡ S.steps system.old ++ started role) }
+        → S.steps system.new ≡ S.steps system.old ++ whole_start role) }
     ensures err { OnErr result (S.tells system.new
         → ((role ≡ whose.Leads) × (S.steps system.new ≡ S.steps system.old ++ stopped_at_lines))
         ⊎ (S.steps system.new ≡ S.steps system.old ++ stopped_at_pause role)

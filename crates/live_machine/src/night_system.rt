@@ -1,5 +1,5 @@
 ghost use Rattle.std.specs.Prelude.{◌≡◌, ◌<◌, List, [], ◌∷◌, ◌++◌, length, IfOk, OnOk, OnErr};
-ghost use Rattle.live_machine.specs.NightKinds.{done, failed};
+ghost use Rattle.live_machine.specs.NightKinds.{success, failure};
 ghost use Rattle.live_machine.specs.NightSteps.{followed_steps, took_up_steps};
 ghost use Rattle.live_machine.specs.declared.night_system.NightDeed.TheVariants as deed;
 ghost use Rattle.live_machine.specs.declared.night_system.NightStep.{NightStep as StepOf};
@@ -127,9 +127,9 @@ pub trait NightSystem {
     fn open_main(&mut self, name: Self::MainName) -> Result<Self::Main, Self::Fault>
         ensures told { tells self.new → tells self.old }
         ensures ok { OnOk result (tells self.new
-            → steps self.new ≡ steps self.old ++ done deed.Main ∷ []) }
+            → steps self.new ≡ steps self.old ++ success deed.Main ∷ []) }
         ensures err { OnErr result (tells self.new
-            → steps self.new ≡ steps self.old ++ failed deed.Main ∷ []) };
+            → steps self.new ≡ steps self.old ++ failure deed.Main ∷ []) };
 
     /// Opens the record of the night that another process plays.
     ///
@@ -142,9 +142,9 @@ pub trait NightSystem {
     ) -> Result<Self::PlayedRecord, Self::Fault>
         ensures told { tells self.new → tells self.old }
         ensures ok { OnOk result (tells self.new
-            → steps self.new ≡ steps self.old ++ done deed.PlayedRecord ∷ []) }
+            → steps self.new ≡ steps self.old ++ success deed.PlayedRecord ∷ []) }
         ensures err { OnErr result (tells self.new
-            → steps self.new ≡ steps self.old ++ failed deed.PlayedRecord ∷ []) };
+            → steps self.new ≡ steps self.old ++ failure deed.PlayedRecord ∷ []) };
 
     /// Takes up that record over no link until the process has ended: whether the night is over
     /// then.
@@ -163,7 +163,7 @@ pub trait NightSystem {
         ensures ok { IfOk result (λ is_over. tells self.new
             → steps self.new ≡ steps self.old ++ took_up_steps is_over) }
         ensures err { OnErr result (tells self.new
-            → steps self.new ≡ steps self.old ++ failed deed.TakeUp ∷ []) };
+            → steps self.new ≡ steps self.old ++ failure deed.TakeUp ∷ []) };
 
     /// The file of that record.
     ///
@@ -173,9 +173,9 @@ pub trait NightSystem {
     fn record_file(&mut self, played: Self::PlayedRecord) -> Result<Self::RecordFile, Self::Fault>
         ensures told { tells self.new → tells self.old }
         ensures ok { OnOk result (tells self.new
-            → steps self.new ≡ steps self.old ++ done deed.RecordFile ∷ []) }
+            → steps self.new ≡ steps self.old ++ success deed.RecordFile ∷ []) }
         ensures err { OnErr result (tells self.new
-            → steps self.new ≡ steps self.old ++ failed deed.RecordFile ∷ []) };
+            → steps self.new ≡ steps self.old ++ failure deed.RecordFile ∷ []) };
 
     /// Opens the devices.
     ///
@@ -185,9 +185,9 @@ pub trait NightSystem {
     fn open_devices(&mut self, descriptors: Self::Descriptors) -> Result<Self::Devices, Self::Fault>
         ensures told { tells self.new → tells self.old }
         ensures ok { OnOk result (tells self.new
-            → steps self.new ≡ steps self.old ++ done deed.Devices ∷ []) }
+            → steps self.new ≡ steps self.old ++ success deed.Devices ∷ []) }
         ensures err { OnErr result (tells self.new
-            → steps self.new ≡ steps self.old ++ failed deed.Devices ∷ []) };
+            → steps self.new ≡ steps self.old ++ failure deed.Devices ∷ []) };
 
     /// Opens the devices behind a record.
     ///
@@ -201,9 +201,9 @@ pub trait NightSystem {
     ) -> Result<Self::Devices, Self::Fault>
         ensures told { tells self.new → tells self.old }
         ensures ok { OnOk result (tells self.new
-            → steps self.new ≡ steps self.old ++ done deed.DevicesBehind ∷ []) }
+            → steps self.new ≡ steps self.old ++ success deed.DevicesBehind ∷ []) }
         ensures err { OnErr result (tells self.new
-            → steps self.new ≡ steps self.old ++ failed deed.DevicesBehind ∷ []) };
+            → steps self.new ≡ steps self.old ++ failure deed.DevicesBehind ∷ []) };
 
     /// Opens the show of a night that takes up another one's record.
     ///
@@ -214,9 +214,9 @@ pub trait NightSystem {
         ensures can { IfOk result (λ night. can_follow night) }
         ensures told { tells self.new → tells self.old }
         ensures ok { OnOk result (tells self.new
-            → steps self.new ≡ steps self.old ++ done deed.Night ∷ []) }
+            → steps self.new ≡ steps self.old ++ success deed.Night ∷ []) }
         ensures err { OnErr result (tells self.new
-            → steps self.new ≡ steps self.old ++ failed deed.Night ∷ []) };
+            → steps self.new ≡ steps self.old ++ failure deed.Night ∷ []) };
 
     /// Opens the show, behind the lines of its record where a night goes on.
     ///
@@ -227,9 +227,9 @@ pub trait NightSystem {
         ensures playable { IfOk result (λ night. is_playable night) }
         ensures told { tells self.new → tells self.old }
         ensures ok { OnOk result (tells self.new
-            → steps self.new ≡ steps self.old ++ done deed.Night ∷ []) }
+            → steps self.new ≡ steps self.old ++ success deed.Night ∷ []) }
         ensures err { OnErr result (tells self.new
-            → steps self.new ≡ steps self.old ++ failed deed.Night ∷ []) };
+            → steps self.new ≡ steps self.old ++ failure deed.Night ∷ []) };
 
     /// Begins the night, and its record, by [`start_night`](crate::start_night).
     ///
@@ -244,14 +244,14 @@ pub trait NightSystem {
     ) -> Result<Self::Booth, Self::Fault>
         ensures told { tells self.new → tells self.old }
         ensures ok { OnOk result (tells self.new
-            → steps self.new ≡ steps self.old ++ done (deed.Begin role) ∷ []) }
+            → steps self.new ≡ steps self.old ++ success (deed.Begin role) ∷ []) }
         ensures err { OnErr result (tells self.new
-            → steps self.new ≡ steps self.old ++ failed (deed.Begin role) ∷ []) };
+            → steps self.new ≡ steps self.old ++ failure (deed.Begin role) ∷ []) };
 
     /// Watches the network from now on.
     fn watch(&mut self, booth: &mut Self::Booth)
         ensures told { tells self.new → tells self.old }
-        ensures step { tells self.new → steps self.new ≡ steps self.old ++ done deed.Watch ∷ [] };
+        ensures step { tells self.new → steps self.new ≡ steps self.old ++ success deed.Watch ∷ [] };
 
     /// Carries out lines of the main's record.
     ///
@@ -271,13 +271,13 @@ pub trait NightSystem {
         ensures ok { IfOk result (λ end. tells self.new
             → steps self.new ≡ steps self.old ++ followed_steps lines end) }
         ensures err { OnErr result (tells self.new
-            → steps self.new ≡ steps self.old ++ failed (deed.Follow lines) ∷ []) }
+            → steps self.new ≡ steps self.old ++ failure (deed.Follow lines) ∷ []) }
         ensures few { tells self.new → length (steps self.new) < 18446744073709551615 };
 
     /// Shows where the night is.
     fn show_place(&mut self, night: &Self::Night, booth: &mut Self::Booth)
         ensures told { tells self.new → tells self.old }
-        ensures step { tells self.new → steps self.new ≡ steps self.old ++ done deed.Place ∷ [] };
+        ensures step { tells self.new → steps self.new ≡ steps self.old ++ success deed.Place ∷ [] };
 
     /// Tells whom the night follows, and where it is.
     ///
@@ -292,9 +292,9 @@ pub trait NightSystem {
     ) -> Result<(), Self::Fault>
         ensures told { tells self.new → tells self.old }
         ensures ok { OnOk result (tells self.new
-            → steps self.new ≡ steps self.old ++ done deed.MainLine ∷ []) }
+            → steps self.new ≡ steps self.old ++ success deed.MainLine ∷ []) }
         ensures err { OnErr result (tells self.new
-            → steps self.new ≡ steps self.old ++ failed deed.MainLine ∷ []) };
+            → steps self.new ≡ steps self.old ++ failure deed.MainLine ∷ []) };
 
     /// From now on lines are those that come, and the main may be silent for its patience.
     ///
@@ -304,15 +304,15 @@ pub trait NightSystem {
     fn follow_on(&mut self, main: &mut Self::Main) -> Result<(), Self::Fault>
         ensures told { tells self.new → tells self.old }
         ensures ok { OnOk result (tells self.new
-            → steps self.new ≡ steps self.old ++ done deed.FollowOn ∷ []) }
+            → steps self.new ≡ steps self.old ++ success deed.FollowOn ∷ []) }
         ensures err { OnErr result (tells self.new
-            → steps self.new ≡ steps self.old ++ failed deed.FollowOn ∷ []) };
+            → steps self.new ≡ steps self.old ++ failure deed.FollowOn ∷ []) };
 
     /// Tells that the main has ended the night.
     fn tell_over(&mut self, night: &Self::Night, booth: &mut Self::Booth)
         ensures told { tells self.new → tells self.old }
         ensures step { tells self.new
-            → steps self.new ≡ steps self.old ++ done deed.OverLine ∷ [] };
+            → steps self.new ≡ steps self.old ++ success deed.OverLine ∷ [] };
 
     /// Tells that the night leads from now on.
     ///
@@ -327,26 +327,26 @@ pub trait NightSystem {
     ) -> Result<(), Self::Fault>
         ensures told { tells self.new → tells self.old }
         ensures ok { OnOk result (tells self.new
-            → steps self.new ≡ steps self.old ++ done deed.LeadLine ∷ []) }
+            → steps self.new ≡ steps self.old ++ success deed.LeadLine ∷ []) }
         ensures err { OnErr result (tells self.new
-            → steps self.new ≡ steps self.old ++ failed deed.LeadLine ∷ []) };
+            → steps self.new ≡ steps self.old ++ failure deed.LeadLine ∷ []) };
 
     /// Hands over what was typed and is not answered yet.
     fn hand_over(&mut self, main: &mut Self::Main, booth: &mut Self::Booth)
         ensures told { tells self.new → tells self.old }
         ensures step { tells self.new
-            → steps self.new ≡ steps self.old ++ done deed.HandOver ∷ [] };
+            → steps self.new ≡ steps self.old ++ success deed.HandOver ∷ [] };
 
     /// Plays the night: how it ended.
     fn lead(&mut self, night: &mut Self::Night, booth: &mut Self::Booth) -> Self::End
         requires playable { is_playable night.old }
         ensures told { tells self.new → tells self.old }
-        ensures step { tells self.new → steps self.new ≡ steps self.old ++ done deed.Lead ∷ [] };
+        ensures step { tells self.new → steps self.new ≡ steps self.old ++ success deed.Lead ∷ [] };
 
     /// Hands on what waits, and waits for writers.
     fn finish(&mut self, booth: &mut Self::Booth)
         ensures told { tells self.new → tells self.old }
-        ensures step { tells self.new → steps self.new ≡ steps self.old ++ done deed.Finish ∷ [] };
+        ensures step { tells self.new → steps self.new ≡ steps self.old ++ success deed.Finish ∷ [] };
 
     /// A night that can take up lines can be played.
     ghost plays: { (night : Self.Night) → can_follow night → is_playable night };

@@ -31,9 +31,9 @@ answer_of Memory = Err lock_fault.Memory
 answer_of (System reason) = Ok false
 
 -- an answer, and whether a file comes with it, whose lock is had
-abbrev pub locked : {F : Type 0} → Result (Option F) LockFault → Result Bool LockFault
-locked (Ok file) = Ok (is_some file)
-locked (Err fault) = Err fault
+abbrev pub lock_answer : {F : Type 0} → Result (Option F) LockFault → Result Bool LockFault
+lock_answer (Ok file) = Ok (is_some file)
+lock_answer (Err fault) = Err fault
 
 -- how the environment answers what the user's runtime folder is
 abbrev pub variable_step : Result (Option (ArrayString 512)) FileFault → CidLockStep

@@ -2,7 +2,7 @@ ghost use Rattle.std.specs.Prelude.{◌≡◌, List, [], ◌∷◌, ◌++◌, If
 ghost use Rattle.night_files.specs.CidLockLaws.{CidLockLaw};
 ghost use Rattle.night_files.specs.CidLocks.{IsCidLock, IsFileOpening, IsFolderChoice};
 ghost use Rattle.night_files.specs.CidLocks.{IsFolderLook, IsFolderMaking, IsLockAnswer};
-ghost use Rattle.night_files.specs.CidLocks.{answer_of, hindrance, is_own, locked, variable_step};
+ghost use Rattle.night_files.specs.CidLocks.{answer_of, hindrance, is_own, lock_answer, variable_step};
 ghost use Rattle.night_files.specs.declared.cid_lock.CidLockStep.{CidLockStep as StepOf};
 ghost use Rattle.night_files.specs.declared.cid_lock.CidLockStep.TheVariants as step;
 
@@ -140,7 +140,7 @@ pub fn take_cid_lock<S: CidLockSystem>(
 ) -> Result<Option<S::File>, LockFault>
     ensures told { S.tells system.new → S.tells system.old }
     ensures steps { S.tells system.new → (steps : List StepOf)
-        × IsCidLock cid steps (locked result)
+        × IsCidLock cid steps (lock_answer result)
         × (S.steps system.new ≡ S.steps system.old ++ steps) }
 {
     match system.user() {
@@ -151,7 +151,7 @@ pub fn take_cid_lock<S: CidLockSystem>(
 
 // What is answered where a step fails: without memory nothing goes on, but without a lock it does.
 fn without_lock<F: Drop>(fault: FileFault) -> Result<Option<F>, LockFault>
-    ensures { locked result ≡ answer_of fault }
+    ensures { lock_answer result ≡ answer_of fault }
 {
     match fault {
         FileFault::System(_) => Ok(None),
@@ -167,7 +167,7 @@ fn choose_folder<S: CidLockSystem>(
 ) -> Result<Option<S::File>, LockFault>
     ensures told { S.tells system.new → S.tells system.old }
     ensures steps { S.tells system.new → (steps : List StepOf)
-        × IsFolderChoice cid user steps (locked result)
+        × IsFolderChoice cid user steps (lock_answer result)
         × (S.steps system.new ≡ S.steps system.old ++ steps) }
 {
     let runtime = system.look(&runtime_folder(user));
@@ -192,7 +192,7 @@ fn make_folder<S: CidLockSystem>(
 ) -> Result<Option<S::File>, LockFault>
     ensures told { S.tells system.new → S.tells system.old }
     ensures steps { S.tells system.new → (steps : List StepOf)
-        × IsFolderMaking cid user folder.now.bytes steps (locked result)
+        × IsFolderMaking cid user folder.now.bytes steps (lock_answer result)
         × (S.steps system.new ≡ S.steps system.old ++ steps) }
 {
     match hindrance(system.make_folder(folder)) {
@@ -221,7 +221,7 @@ fn look_at_folder<S: CidLockSystem>(
 ) -> Result<Option<S::File>, LockFault>
     ensures told { S.tells system.new → S.tells system.old }
     ensures steps { S.tells system.new → (steps : List StepOf)
-        × IsFolderLook cid user folder.now.bytes steps (locked result)
+        × IsFolderLook cid user folder.now.bytes steps (lock_answer result)
         × (S.steps system.new ≡ S.steps system.old ++ steps) }
 {
     if !FoundFolder::is_own(system.look(folder), user) {
@@ -240,7 +240,7 @@ fn open_file<S: CidLockSystem>(
 ) -> Result<Option<S::File>, LockFault>
     ensures told { S.tells system.new → S.tells system.old }
     ensures steps { S.tells system.new → (steps : List StepOf)
-        × IsFileOpening path.now.bytes steps (locked result)
+        × IsFileOpening path.now.bytes steps (lock_answer result)
         × (S.steps system.new ≡ S.steps system.old ++ steps) }
 {
     let file = match system.open(path) {

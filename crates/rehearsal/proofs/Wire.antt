@@ -14,7 +14,7 @@ use Rattle.sacn_packet.proofs.Readable.{none_from_readable}
 use Rattle.sacn_receiver.specs.declared.answer.Ignored.TheVariants.{Unreadable}
 use Rattle.sacn_receiver.specs.Arrivals.{not_heard}
 use Rattle.sacn_receiver.specs.Source.{Entry, last_moment}
-use Rattle.sacn_receiver.specs.Taking.{accepted_entry, unheard, history_after}
+use Rattle.sacn_receiver.specs.Taking.{accepted_entry, off_reason, history_after}
 use Rattle.sacn_receiver.proofs.Members.{by_test}
 use Rattle.rehearsal.specs.Datagrams.{fields_at, packet_bytes}
 use Rattle.rehearsal.specs.Delivery.{Delivery}
@@ -114,10 +114,10 @@ module _ (source : Identity) (universe k : ℕ) (packet : Packet)
       full = rw is.size (append-nil packet.slots)
 
   -- it is heard on its own universe alone
-  by_wire : (u : ℕ) → not_heard u bytes ≡ unheard u wire
-  by_wire u = ap (λ f. option_or (option_map Unreadable f) (unheard u (front_packet bytes)))
+  by_wire : (u : ℕ) → not_heard u bytes ≡ off_reason u wire
+  by_wire u = ap (λ f. option_or (option_map Unreadable f) (off_reason u (front_packet bytes)))
       (none_from_readable bytes (readable_from_packet bytes has.0
-      (fields_at source universe k packet) packet.slots has.1)) ∙ ap (unheard u) front_is
+      (fields_at source universe k packet) packet.slots has.1)) ∙ ap (off_reason u) front_is
 
   pub heard_here : not_heard universe (packet_bytes source universe k packet) ≡ None
   heard_here = by_wire universe ∙ rw (eq-eqb universe universe refl, (options_are packet.ends).1)
@@ -130,10 +130,10 @@ module _ (source : Identity) (universe k : ℕ) (packet : Packet)
 pub unheard_left : (u : ℕ) (h : List Entry) (t : ℕ) (bytes : List ℕ)
     → is_some (not_heard u bytes) ≡ true → history_after 4 u h t bytes ≡ h
 unheard_left u h t bytes s = go (nat_lt t (last_moment h)) (fault_of bytes)
-    (unheard u (front_packet bytes)) refl refl refl s
+    (off_reason u (front_packet bytes)) refl refl refl s
   where
     go : (b : Bool) (f : Option _) (n : Option Ignored) → nat_lt t (last_moment h) ≡ b
-        → fault_of bytes ≡ f → unheard u (front_packet bytes) ≡ n
+        → fault_of bytes ≡ f → off_reason u (front_packet bytes) ≡ n
         → is_some (option_or (option_map Unreadable f) n) ≡ true → history_after 4 u h t bytes ≡ h
     go true f n p q r s = rw p
     go false (Some f) n p q r s = rw (p, q)

@@ -25,7 +25,7 @@ use Rattle.sacn_receiver.specs.declared.answer.Ignored.TheVariants.{Backwards, U
 use Rattle.sacn_receiver.specs.Source.{Entry, same_cid, is_there, is_after, records, while_there}
 use Rattle.sacn_receiver.specs.Source.{record_of, is_taken, last_moment}
 use Rattle.sacn_receiver.specs.Arrivals.{not_heard}
-use Rattle.sacn_receiver.specs.Taking.{source_reason, source_refusal, accepted_entry, unheard}
+use Rattle.sacn_receiver.specs.Taking.{source_reason, source_refusal, accepted_entry, off_reason}
 use Rattle.sacn_receiver.specs.Taking.{ignored_packet}
 use Rattle.sacn_receiver.specs.Taking.{ignore_reason, taken_of, answer, history_after}
 use Rattle.sacn_receiver.specs.Records.{entries, kept_entry}
@@ -259,7 +259,7 @@ pub in_time : (room universe : ℕ) (h : List Entry) (t : ℕ) (d : List ℕ) �
 in_time room universe h t d time =
     ap (λ b. if b then Some Backwards else option_or (option_map Unreadable (fault_of d))
     (ignored_packet room universe h t (front_packet d))) (le-ltb t (last_moment h) time)
-    ∙ in_parts (option_map Unreadable (fault_of d)) (unheard universe (front_packet d)) _
+    ∙ in_parts (option_map Unreadable (fault_of d)) (off_reason universe (front_packet d)) _
 
 -- for which history a receiver stands after a packet, and what it answers, by why it is ignored
 module _ (r : ReceiverState) (h : List Entry) (t : ℕ) (d : List ℕ) (p : WirePacket)
@@ -269,9 +269,9 @@ module _ (r : ReceiverState) (h : List Entry) (t : ℕ) (d : List ℕ) (p : Wire
   ignored_by : ignore_reason 4 r.universe h t d ≡ o
   ignored_by =
       in_time 4 r.universe h t d (omega (arith, s.latest_is, time))
-      ∙ ap₂ (λ f q. option_or (option_or (option_map Unreadable f) (unheard r.universe q))
+      ∙ ap₂ (λ f q. option_or (option_or (option_map Unreadable f) (off_reason r.universe q))
       (source_refusal 4 h t q.fields.cid q.fields.sequence)) (sym fault) (packet_ends d p has)
-      ∙ ap (option_or (unheard r.universe p)) (refused_by t r.records h apart
+      ∙ ap (option_or (off_reason r.universe p)) (refused_by t r.records h apart
       (λ c. s.records_are t c time) 4 p.fields.cid p.fields.sequence
       ∙ sym (refused_by t r.records r.records apart (λ c. refl) 4 p.fields.cid
       p.fields.sequence)) ∙ sym why

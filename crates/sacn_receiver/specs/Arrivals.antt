@@ -8,7 +8,7 @@ use Rattle.sacn_packet.specs.Faults.{fault_of}
 use Rattle.sacn_receiver.specs.declared.answer.Ignored.{Ignored}
 use Rattle.sacn_receiver.specs.declared.answer.Ignored.TheVariants.{Unreadable}
 use Rattle.sacn_receiver.specs.Source.{Entry}
-use Rattle.sacn_receiver.specs.Taking.{accepted_entry, unheard, history_after}
+use Rattle.sacn_receiver.specs.Taking.{accepted_entry, off_reason, history_after}
 
 -- a datagram, with the moment in milliseconds when it was handed in; in lists the newest is first
 pub record Arrival : Type 0 where
@@ -36,7 +36,7 @@ NeverFall (a ∷ older) = (last_arrival older ≤ a.moment) × NeverFall older
 -- or one that is not meant for the universe's stage
 abbrev pub not_heard : ℕ → List ℕ → Option Ignored
 not_heard universe datagram =
-    option_or (option_map Unreadable (fault_of datagram)) (unheard universe (front_packet datagram))
+    option_or (option_map Unreadable (fault_of datagram)) (off_reason universe (front_packet datagram))
 
 -- it is heard: there is a packet of the universe in it, with data for the stage
 abbrev pub is_heard : ℕ → Arrival → Bool

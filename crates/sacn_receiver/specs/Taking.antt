@@ -57,13 +57,13 @@ keeps_off universe p AltStart = is_alternate p
 keeps_off universe p _ = false
 
 -- why a packet is not heard on a universe: the first of these reasons that applies
-abbrev pub unheard : ℕ → WirePacket → Option Ignored
-unheard universe p = find (keeps_off universe p) (OtherUniverse ∷ Preview ∷ AltStart ∷ [])
+abbrev pub off_reason : ℕ → WirePacket → Option Ignored
+off_reason universe p = find (keeps_off universe p) (OtherUniverse ∷ Preview ∷ AltStart ∷ [])
 
 -- why a packet is ignored
 abbrev pub ignored_packet : ℕ → ℕ → List Entry → ℕ → WirePacket → Option Ignored
 ignored_packet room universe h t p =
-    option_or (unheard universe p) (source_refusal room h t p.fields.cid p.fields.sequence)
+    option_or (off_reason universe p) (source_refusal room h t p.fields.cid p.fields.sequence)
 
 -- why a datagram is ignored: the first reason that applies
 abbrev pub ignore_reason : ℕ → ℕ → List Entry → ℕ → List ℕ → Option Ignored

@@ -4,7 +4,7 @@ ghost use Rattle.sacn_packet.specs.Wire.{HasPacket};
 ghost use Rattle.sacn_packet.specs.Reading.{front_packet};
 ghost use Rattle.sacn_receiver.specs.Source.{Entry, last_moment};
 ghost use Rattle.sacn_receiver.specs.Taking.{answer, accepted_entry, history_after, ignored_packet};
-ghost use Rattle.sacn_receiver.specs.Taking.{unheard};
+ghost use Rattle.sacn_receiver.specs.Taking.{off_reason};
 ghost use Rattle.sacn_receiver.specs.Places.{AreDistinct, IsPlace};
 ghost use Rattle.sacn_receiver.specs.Records.{entries};
 ghost use Rattle.sacn_receiver.specs.Shown.{live, shown_slots};
@@ -135,7 +135,7 @@ fn accept(
 
 // Why a packet is not heard on a universe, if it is not.
 fn hear(universe: u16, packet: &DataPacket) -> Result<(), Ignored>
-    ensures { result_err result ≡ unheard universe packet.now }
+    ensures { result_err result ≡ off_reason universe packet.now }
 {
     if packet.universe() != universe {
         Err(Ignored::OtherUniverse)

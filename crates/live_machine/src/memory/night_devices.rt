@@ -1,6 +1,6 @@
 ghost use Rattle.std.specs.Prelude.{◌≡◌, false, is_ok};
 ghost use Rattle.memory_steps.specs.Keeping.{OnlyKeeps};
-ghost use Rattle.live_machine.specs.NightDevices.{asked_for, had_or_missing};
+ghost use Rattle.live_machine.specs.NightDevices.{device_step, had_or_missing};
 ghost use Rattle.live_machine.specs.declared.night_devices.NightDevice.TheVariants as device;
 
 use crate::night_devices::{DeviceStep, DeviceSystem, NightDevice};

@@ -1,7 +1,7 @@
 ghost use Rattle.std.specs.Prelude.{◌≡◌, ◌<◌, ◌-◌, ◌++◌, ◌∷◌, [], ⊤, false, is_err, is_some};
 ghost use Rattle.std.specs.Prelude.{length, IfOk, OnOk, OnErr};
 ghost use Rattle.live_machine.specs.MemoryNight.{HasTried, IsSame, follow_end};
-ghost use Rattle.live_machine.specs.NightKinds.{done, failed};
+ghost use Rattle.live_machine.specs.NightKinds.{success, failure};
 ghost use Rattle.live_machine.specs.NightSteps.{followed_steps, took_up_steps};
 ghost use Rattle.live_machine.specs.declared.night_system.NightDeed.TheVariants as deed;
 
@@ -62,9 +62,9 @@ impl MemoryNight {
         ensures same { IsSame self.old self.new }
         ensures told { self.new.full ≡ false → self.old.full ≡ false }
         ensures ok { OnOk result (self.new.full ≡ false
-            → self.new.steps.items ≡ self.old.steps.items ++ done deed ∷ []) }
+            → self.new.steps.items ≡ self.old.steps.items ++ success deed ∷ []) }
         ensures err { OnErr result (self.new.full ≡ false
-            → self.new.steps.items ≡ self.old.steps.items ++ failed deed ∷ []) }
+            → self.new.steps.items ≡ self.old.steps.items ++ failure deed ∷ []) }
         ensures few { self.new.full ≡ false
             → length self.new.steps.items < 18446744073709551615 }
     {
@@ -110,9 +110,9 @@ impl NightSystem for MemoryNight {
         ensures same { IsSame self.old self.new }
         ensures told { self.new.full ≡ false → self.old.full ≡ false }
         ensures ok { OnOk result (self.new.full ≡ false
-            → self.new.steps.items ≡ self.old.steps.items ++ done deed.Main ∷ []) }
+            → self.new.steps.items ≡ self.old.steps.items ++ success deed.Main ∷ []) }
         ensures err { OnErr result (self.new.full ≡ false
-            → self.new.steps.items ≡ self.old.steps.items ++ failed deed.Main ∷ []) }
+            → self.new.steps.items ≡ self.old.steps.items ++ failure deed.Main ∷ []) }
     {
         self.try_deed(NightDeed::Main)
     }
@@ -122,9 +122,9 @@ impl NightSystem for MemoryNight {
         ensures same { IsSame self.old self.new }
         ensures told { self.new.full ≡ false → self.old.full ≡ false }
         ensures ok { OnOk result (self.new.full ≡ false
-            → self.new.steps.items ≡ self.old.steps.items ++ done deed.PlayedRecord ∷ []) }
+            → self.new.steps.items ≡ self.old.steps.items ++ success deed.PlayedRecord ∷ []) }
         ensures err { OnErr result (self.new.full ≡ false
-            → self.new.steps.items ≡ self.old.steps.items ++ failed deed.PlayedRecord ∷ []) }
+            → self.new.steps.items ≡ self.old.steps.items ++ failure deed.PlayedRecord ∷ []) }
     {
         self.try_deed(NightDeed::PlayedRecord)
     }
@@ -137,7 +137,7 @@ impl NightSystem for MemoryNight {
         ensures ok { IfOk result (λ is_over. self.new.full ≡ false
             → self.new.steps.items ≡ self.old.steps.items ++ took_up_steps is_over) }
         ensures err { OnErr result (self.new.full ≡ false
-            → self.new.steps.items ≡ self.old.steps.items ++ failed deed.TakeUp ∷ []) }
+            → self.new.steps.items ≡ self.old.steps.items ++ failure deed.TakeUp ∷ []) }
     {
         self.try_deed(NightDeed::TakeUp)?;
         let is_over = self.over.is_some();
@@ -152,9 +152,9 @@ impl NightSystem for MemoryNight {
         ensures same { IsSame self.old self.new }
         ensures told { self.new.full ≡ false → self.old.full ≡ false }
         ensures ok { OnOk result (self.new.full ≡ false
-            → self.new.steps.items ≡ self.old.steps.items ++ done deed.RecordFile ∷ []) }
+            → self.new.steps.items ≡ self.old.steps.items ++ success deed.RecordFile ∷ []) }
         ensures err { OnErr result (self.new.full ≡ false
-            → self.new.steps.items ≡ self.old.steps.items ++ failed deed.RecordFile ∷ []) }
+            → self.new.steps.items ≡ self.old.steps.items ++ failure deed.RecordFile ∷ []) }
     {
         self.try_deed(NightDeed::RecordFile)
     }
@@ -164,9 +164,9 @@ impl NightSystem for MemoryNight {
         ensures same { IsSame self.old self.new }
         ensures told { self.new.full ≡ false → self.old.full ≡ false }
         ensures ok { OnOk result (self.new.full ≡ false
-            → self.new.steps.items ≡ self.old.steps.items ++ done deed.Devices ∷ []) }
+            → self.new.steps.items ≡ self.old.steps.items ++ success deed.Devices ∷ []) }
         ensures err { OnErr result (self.new.full ≡ false
-            → self.new.steps.items ≡ self.old.steps.items ++ failed deed.Devices ∷ []) }
+            → self.new.steps.items ≡ self.old.steps.items ++ failure deed.Devices ∷ []) }
     {
         self.try_deed(NightDeed::Devices)
     }
@@ -176,9 +176,9 @@ impl NightSystem for MemoryNight {
         ensures same { IsSame self.old self.new }
         ensures told { self.new.full ≡ false → self.old.full ≡ false }
         ensures ok { OnOk result (self.new.full ≡ false
-            → self.new.steps.items ≡ self.old.steps.items ++ done deed.DevicesBehind ∷ []) }
+            → self.new.steps.items ≡ self.old.steps.items ++ success deed.DevicesBehind ∷ []) }
         ensures err { OnErr result (self.new.full ≡ false
-            → self.new.steps.items ≡ self.old.steps.items ++ failed deed.DevicesBehind ∷ []) }
+            → self.new.steps.items ≡ self.old.steps.items ++ failure deed.DevicesBehind ∷ []) }
     {
         self.try_deed(NightDeed::DevicesBehind)
     }
@@ -188,9 +188,9 @@ impl NightSystem for MemoryNight {
         ensures same { IsSame self.old self.new }
         ensures told { self.new.full ≡ false → self.old.full ≡ false }
         ensures ok { OnOk result (self.new.full ≡ false
-            → self.new.steps.items ≡ self.old.steps.items ++ done deed.Night ∷ []) }
+            → self.new.steps.items ≡ self.old.steps.items ++ success deed.Night ∷ []) }
         ensures err { OnErr result (self.new.full ≡ false
-            → self.new.steps.items ≡ self.old.steps.items ++ failed deed.Night ∷ []) }
+            → self.new.steps.items ≡ self.old.steps.items ++ failure deed.Night ∷ []) }
     {
         self.try_deed(NightDeed::Night)
     }
@@ -200,9 +200,9 @@ impl NightSystem for MemoryNight {
         ensures same { IsSame self.old self.new }
         ensures told { self.new.full ≡ false → self.old.full ≡ false }
         ensures ok { OnOk result (self.new.full ≡ false
-            → self.new.steps.items ≡ self.old.steps.items ++ done deed.Night ∷ []) }
+            → self.new.steps.items ≡ self.old.steps.items ++ success deed.Night ∷ []) }
         ensures err { OnErr result (self.new.full ≡ false
-            → self.new.steps.items ≡ self.old.steps.items ++ failed deed.Night ∷ []) }
+            → self.new.steps.items ≡ self.old.steps.items ++ failure deed.Night ∷ []) }
     {
         self.try_deed(NightDeed::Night)
     }
@@ -212,9 +212,9 @@ impl NightSystem for MemoryNight {
         ensures same { IsSame self.old self.new }
         ensures told { self.new.full ≡ false → self.old.full ≡ false }
         ensures ok { OnOk result (self.new.full ≡ false
-            → self.new.steps.items ≡ self.old.steps.items ++ done (deed.Begin role) ∷ []) }
+            → self.new.steps.items ≡ self.old.steps.items ++ success (deed.Begin role) ∷ []) }
         ensures err { OnErr result (self.new.full ≡ false
-            → self.new.steps.items ≡ self.old.steps.items ++ failed (deed.Begin role) ∷ []) }
+            → self.new.steps.items ≡ self.old.steps.items ++ failure (deed.Begin role) ∷ []) }
     {
         self.try_deed(NightDeed::Begin(role))
     }
@@ -223,7 +223,7 @@ impl NightSystem for MemoryNight {
         ensures same { (self.new.faults ≡ self.old.faults) × IsSame self.old self.new }
         ensures told { self.new.full ≡ false → self.old.full ≡ false }
         ensures step { self.new.full ≡ false
-            → self.new.steps.items ≡ self.old.steps.items ++ done deed.Watch ∷ [] }
+            → self.new.steps.items ≡ self.old.steps.items ++ success deed.Watch ∷ [] }
     {
         self.keep(NightDeed::Watch, true);
     }
@@ -244,7 +244,7 @@ impl NightSystem for MemoryNight {
         ensures ok { IfOk result (λ end. self.new.full ≡ false
             → self.new.steps.items ≡ self.old.steps.items ++ followed_steps lines end) }
         ensures err { OnErr result (self.new.full ≡ false
-            → self.new.steps.items ≡ self.old.steps.items ++ failed (deed.Follow lines) ∷ []) }
+            → self.new.steps.items ≡ self.old.steps.items ++ failure (deed.Follow lines) ∷ []) }
         ensures few { self.new.full ≡ false
             → length self.new.steps.items < 18446744073709551615 }
     {
@@ -265,7 +265,7 @@ impl NightSystem for MemoryNight {
         ensures same { (self.new.faults ≡ self.old.faults) × IsSame self.old self.new }
         ensures told { self.new.full ≡ false → self.old.full ≡ false }
         ensures step { self.new.full ≡ false
-            → self.new.steps.items ≡ self.old.steps.items ++ done deed.Place ∷ [] }
+            → self.new.steps.items ≡ self.old.steps.items ++ success deed.Place ∷ [] }
     {
         self.keep(NightDeed::Place, true);
     }
@@ -275,9 +275,9 @@ impl NightSystem for MemoryNight {
         ensures same { IsSame self.old self.new }
         ensures told { self.new.full ≡ false → self.old.full ≡ false }
         ensures ok { OnOk result (self.new.full ≡ false
-            → self.new.steps.items ≡ self.old.steps.items ++ done deed.MainLine ∷ []) }
+            → self.new.steps.items ≡ self.old.steps.items ++ success deed.MainLine ∷ []) }
         ensures err { OnErr result (self.new.full ≡ false
-            → self.new.steps.items ≡ self.old.steps.items ++ failed deed.MainLine ∷ []) }
+            → self.new.steps.items ≡ self.old.steps.items ++ failure deed.MainLine ∷ []) }
     {
         self.try_deed(NightDeed::MainLine)
     }
@@ -287,9 +287,9 @@ impl NightSystem for MemoryNight {
         ensures same { IsSame self.old self.new }
         ensures told { self.new.full ≡ false → self.old.full ≡ false }
         ensures ok { OnOk result (self.new.full ≡ false
-            → self.new.steps.items ≡ self.old.steps.items ++ done deed.FollowOn ∷ []) }
+            → self.new.steps.items ≡ self.old.steps.items ++ success deed.FollowOn ∷ []) }
         ensures err { OnErr result (self.new.full ≡ false
-            → self.new.steps.items ≡ self.old.steps.items ++ failed deed.FollowOn ∷ []) }
+            → self.new.steps.items ≡ self.old.steps.items ++ failure deed.FollowOn ∷ []) }
     {
         self.try_deed(NightDeed::FollowOn)
     }
@@ -298,7 +298,7 @@ impl NightSystem for MemoryNight {
         ensures same { (self.new.faults ≡ self.old.faults) × IsSame self.old self.new }
         ensures told { self.new.full ≡ false → self.old.full ≡ false }
         ensures step { self.new.full ≡ false
-            → self.new.steps.items ≡ self.old.steps.items ++ done deed.OverLine ∷ [] }
+            → self.new.steps.items ≡ self.old.steps.items ++ success deed.OverLine ∷ [] }
     {
         self.keep(NightDeed::OverLine, true);
     }
@@ -308,9 +308,9 @@ impl NightSystem for MemoryNight {
         ensures same { IsSame self.old self.new }
         ensures told { self.new.full ≡ false → self.old.full ≡ false }
         ensures ok { OnOk result (self.new.full ≡ false
-            → self.new.steps.items ≡ self.old.steps.items ++ done deed.LeadLine ∷ []) }
+            → self.new.steps.items ≡ self.old.steps.items ++ success deed.LeadLine ∷ []) }
         ensures err { OnErr result (self.new.full ≡ false
-            → self.new.steps.items ≡ self.old.steps.items ++ failed deed.LeadLine ∷ []) }
+            → self.new.steps.items ≡ self.old.steps.items ++ failure deed.LeadLine ∷ []) }
     {
         self.try_deed(NightDeed::LeadLine)
     }
@@ -319,7 +319,7 @@ impl NightSystem for MemoryNight {
         ensures same { (self.new.faults ≡ self.old.faults) × IsSame self.old self.new }
         ensures told { self.new.full ≡ false → self.old.full ≡ false }
         ensures step { self.new.full ≡ false
-            → self.new.steps.items ≡ self.old.steps.items ++ done deed.HandOver ∷ [] }
+            → self.new.steps.items ≡ self.old.steps.items ++ success deed.HandOver ∷ [] }
     {
         self.keep(NightDeed::HandOver, true);
     }
@@ -328,7 +328,7 @@ impl NightSystem for MemoryNight {
         ensures same { (self.new.faults ≡ self.old.faults) × IsSame self.old self.new }
         ensures told { self.new.full ≡ false → self.old.full ≡ false }
         ensures step { self.new.full ≡ false
-            → self.new.steps.items ≡ self.old.steps.items ++ done deed.Lead ∷ [] }
+            → self.new.steps.items ≡ self.old.steps.items ++ success deed.Lead ∷ [] }
     {
         self.keep(NightDeed::Lead, true);
     }
@@ -337,7 +337,7 @@ impl NightSystem for MemoryNight {
         ensures same { (self.new.faults ≡ self.old.faults) × IsSame self.old self.new }
         ensures told { self.new.full ≡ false → self.old.full ≡ false }
         ensures step { self.new.full ≡ false
-            → self.new.steps.items ≡ self.old.steps.items ++ done deed.Finish ∷ [] }
+            → self.new.steps.items ≡ self.old.steps.items ++ success deed.Finish ∷ [] }
     {
         self.keep(NightDeed::Finish, true);
     }
