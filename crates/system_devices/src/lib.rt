@@ -34,7 +34,7 @@ mod typed_input;
 mod way;
 mod written_record;
 
-pub use appended_lines::AppendedLines;
+pub use appended_lines::{AppendedLines, are_lines_there, lines_in_time};
 pub use bounded_output::{BoundedOutput, Names, PolledWay, open_output};
 pub use card_sender::CardSender;
 pub use cards::read_cards;

@@ -2,7 +2,7 @@ use Rattle.std.proofs.Common.{◌++◌, ◌-◌, ap, inr, refl, ◌∙◌}
 use Rattle.std.proofs.lemmas.List.{append_assoc}
 use Rattle.night_record.specs.HeadWait.{line_after}
 use Rattle.night_record.proofs.HeadSteps.{second_missing}
-use Rattle.night_record.proofs.head_wait.head_within.Goals as goal
+use Rattle.night_record.proofs.head_wait.head_in_turns.Goals as goal
 
 -- src/head_wait.rt:66:18
 pub returns-in_err-second-clause-steps : goal.returns-in_err-second-clause-steps
