@@ -65,7 +65,9 @@ impl<G: Growth> RecordLines<G> {
         ensures number { self.new.number ≡ number_behind self.old.number result }
         ensures same { self.new.record ≡ self.old.record }
     {
-        let line = self.lines.next_line()?;
+        let Some(line) = self.lines.next_line() else {
+            return None;
+        };
         self.number = self.number.saturating_add(1);
         Some(line)
     }
