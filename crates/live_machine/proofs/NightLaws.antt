@@ -2,8 +2,9 @@
 use Rattle.std.proofs.Common.{◌≡◌, refl, ℕ, zero, suc, true, false}
 use Rattle.std.proofs.Common.{List, ◌∷◌, ◌++◌}
 use Rattle.std.specs.Prelude.{Option, Some, None, ⊤}
-use Rattle.live_machine.specs.NightKinds.{BackupStop, all_done, place_turns, backup_steps, success, done_but}
-use Rattle.live_machine.specs.NightKinds.{join_deeds, spare_deeds, spare_steps, stopped_steps}
+use Rattle.live_machine.specs.NightKinds.{BackupStop, all_done, backup_steps, done_but, join_deeds}
+use Rattle.live_machine.specs.NightKinds.{place_turns, spare_deeds, spare_steps, stopped_steps}
+use Rattle.live_machine.specs.NightKinds.{success}
 use Rattle.live_machine.specs.NightKinds as stop
 use Rattle.live_machine.specs.NightLaws.{BackupNightLaw, IsFinished, IsNightRight, SpareNightLaw}
 use Rattle.live_machine.specs.NightLaws.{is_catch_up, is_finish, is_over_deed, is_taken_up, lacks}
@@ -32,7 +33,8 @@ spare_finished : (end : Option ⊤) → IsFinished (spare_steps end)
 spare_finished None = refl
 spare_finished (Some end) = refl
 
-spare_stopped : (count : ℕ) → lacks_before is_taken_up is_opening (done_but count spare_deeds) ≡ true
+spare_stopped : (count : ℕ)
+    → lacks_before is_taken_up is_opening (done_but count spare_deeds) ≡ true
 spare_stopped zero = refl
 spare_stopped (suc zero) = refl
 spare_stopped (suc (suc zero)) = refl
@@ -60,7 +62,8 @@ asked_right (suc times) steps h =
       finished = rest.finished;
     }
 
-joined_right : (steps : List NightStep) → IsNightRight steps → IsNightRight (all_done join_deeds ++ steps)
+joined_right : (steps : List NightStep) → IsNightRight steps
+    → IsNightRight (all_done join_deeds ++ steps)
 joined_right steps h = record {
   told_first = h.told_first;
   caught_up = h.caught_up;

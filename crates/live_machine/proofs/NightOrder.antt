@@ -17,7 +17,8 @@ taken_up old is_over is takes = takes ∙ ap (λ over. old ++ took_up_steps over
 
 -- it asks once more
 pub asked_again : (times : ℕ) (lines : MainLines)
-    → place_turns times lines ++ success (deed.Follow lines) ∷ success deed.Asked ∷ success deed.Place ∷ []
+    → place_turns times lines
+    ++ success (deed.Follow lines) ∷ success deed.Asked ∷ success deed.Place ∷ []
     ≡ place_turns (suc times) lines
 asked_again zero lines = refl
 asked_again (suc times) lines =

@@ -1,8 +1,8 @@
 -- What an audience sees of a night, whichever way it goes.
 use Rattle.std.specs.Prelude.{◌≡◌, ℕ, suc, Bool, true, false, not, ◌&&◌}
 use Rattle.std.specs.Prelude.{if◌then◌else◌, List, [], ◌∷◌, Option, ⊤}
-use Rattle.live_machine.specs.NightKinds.{BackupStop, backup_steps, done_but, spare_deeds, spare_steps}
-use Rattle.live_machine.specs.NightKinds.{stopped_steps}
+use Rattle.live_machine.specs.NightKinds.{BackupStop, backup_steps, done_but, spare_deeds}
+use Rattle.live_machine.specs.NightKinds.{spare_steps, stopped_steps}
 use Rattle.live_machine.specs.declared.night_kinds.NightEnd.{NightEnd}
 use Rattle.live_machine.specs.declared.night_system.MainLines.TheVariants.{Coming, Standing}
 use Rattle.live_machine.specs.declared.night_system.NightDeed.{NightDeed}
@@ -92,7 +92,8 @@ pub record BackupNightLaw : Type 0 where
 -- finished once if the night was played
 pub record SpareNightLaw : Type 0 where
   pub ended : (end : Option ⊤) → lacks_before is_taken_up is_opening (spare_steps end) ≡ true
-  pub stopped : (count : ℕ) → lacks_before is_taken_up is_opening (done_but count spare_deeds) ≡ true
+  pub stopped : (count : ℕ)
+      → lacks_before is_taken_up is_opening (done_but count spare_deeds) ≡ true
   pub unopened : (end : Option ⊤) → lacks_behind is_over_deed is_opening (spare_steps end) ≡ true
   pub unsent : (end : Option ⊤) → lacks_behind is_over_deed is_send (spare_steps end) ≡ true
   pub finished : (end : Option ⊤) → IsFinished (spare_steps end)

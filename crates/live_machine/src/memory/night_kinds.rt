@@ -159,7 +159,8 @@ impl NightSystem for MemoryNight {
         _booth: &mut (),
         lines: MainLines,
     ) -> Result<FollowEnd, LinkFault>
-        ensures end { IfOk result (λ end. end ≡ follow_end self.old.answers.asks self.old.answers.over lines) }
+        ensures end { IfOk result (λ end. end
+            ≡ follow_end self.old.answers.asks self.old.answers.over lines) }
         ensures asks { OnOk result (self.new.answers.asks ≡ self.old.answers.asks - 1) }
         ensures unasked { OnErr result (self.new.answers.asks ≡ self.old.answers.asks) }
         ensures over { self.new.answers.over ≡ self.old.answers.over }
