@@ -3,11 +3,11 @@ use Rattle.std.proofs.Common.{◌≡◌, ◌∙◌, ℕ, Bool, true, false, not,
 use Rattle.std.proofs.Common.{ap, append-nil, append_assoc, refl, sym, subst}
 use Rattle.std.proofs.lemmas.List.Elements.{All-head, All-tail}
 use Rattle.std.specs.Prelude.{All, map}
-use Rattle.line_queue.proofs.Watching.{look_of as look_by, watch_of}
+use Rattle.line_queue.proofs.Watching.{output_look, watch_of}
 use Rattle.line_queue.specs.OutputDeeds.{OutputDeed}
 use Rattle.line_queue.specs.OutputDeeds.OutputDeed.{FinishLines, Message}
-use Rattle.line_queue.specs.RecordLaws.{EndsAtFailure, RecordCall, RecordLaw, deeds_of, line_of}
-use Rattle.line_queue.specs.RecordLaws.{lines_in, look_of, looks_in, messages_in}
+use Rattle.line_queue.specs.RecordLaws.{EndsAtFailure, RecordCall, RecordLaw, deeds_of, call_line}
+use Rattle.line_queue.specs.RecordLaws.{call_look, record_lines_in, looks_in, messages_in}
 use Rattle.line_queue.specs.RecordLaws as call
 use Rattle.line_queue.specs.Recording.{end_of_record, look_deeds, record_owed_told}
 use Rattle.line_queue.specs.Waits.{wait_deeds}
@@ -33,7 +33,7 @@ behind late gaps look calls =
 
 ends_behind : (failed now late : Bool) (found gaps : ℕ) (calls : List RecordCall)
     → ((l : Bool) (g : ℕ) → EndsAtFailure false (deeds_of (watch_of false l g) calls))
-    → EndsAtFailure false (behind late gaps (look_by failed now found) calls)
+    → EndsAtFailure false (behind late gaps (output_look failed now found) calls)
 ends_behind true now late found gaps calls rest =
     ap (λ deeds. Message (record_notice Failed) ∷ deeds) (silent calls late gaps)
 ends_behind false false false found gaps calls rest = rest false gaps
@@ -63,7 +63,7 @@ AreNotices told deeds = messages_in deeds ≡ map record_notice (notices_of told
 
 notices_behind : (failed now late : Bool) (found gaps : ℕ) (calls : List RecordCall)
     → ((l : Bool) (g : ℕ) → AreNotices (watch_of false l g) (deeds_of (watch_of false l g) calls))
-    → AreNotices (watch_of false late gaps) (behind late gaps (look_by failed now found) calls)
+    → AreNotices (watch_of false late gaps) (behind late gaps (output_look failed now found) calls)
 notices_behind true now late found gaps calls rest =
     ap (λ lines. record_notice Failed ∷ lines)
     (subst (AreNotices (watch_of true late gaps)) (sym (silent calls late gaps)) refl)
@@ -93,14 +93,14 @@ notices false late gaps calls = notices_at calls late gaps
 -- ---- each line is put into a record that does not fail
 
 abbrev IsWell : RecordCall → Type 0
-IsWell call = (look_of call).has_failed ≡ false
+IsWell call = (call_look call).has_failed ≡ false
 
 abbrev AreLines : List RecordCall → List OutputDeed → Type 0
-AreLines calls deeds = lines_in deeds ≡ map line_of calls
+AreLines calls deeds = record_lines_in deeds ≡ map call_line calls
 
 lines_behind : (now late : Bool) (found gaps : ℕ) (calls : List RecordCall)
     → ((l : Bool) (g : ℕ) → AreLines calls (deeds_of (watch_of false l g) calls))
-    → AreLines calls (behind late gaps (look_by false now found) calls)
+    → AreLines calls (behind late gaps (output_look false now found) calls)
 lines_behind false false found gaps calls rest = rest false gaps
 lines_behind true false found gaps calls rest = rest true gaps
 lines_behind true true found gaps calls rest = rest true gaps
@@ -111,7 +111,7 @@ lines_well : (look : OutputLook) (late : Bool) (gaps : ℕ) (calls : List Record
     → ((l : Bool) (g : ℕ) → AreLines calls (deeds_of (watch_of false l g) calls))
     → AreLines calls (behind late gaps look calls)
 lines_well look late gaps calls well rest =
-    subst (λ f. AreLines calls (behind late gaps (look_by f look.is_late look.gaps) calls))
+    subst (λ f. AreLines calls (behind late gaps (output_look f look.is_late look.gaps) calls))
     (sym well) (lines_behind look.is_late late look.gaps gaps calls rest)
 
 lines_at : (calls : List RecordCall) → All IsWell calls → (late : Bool) (gaps : ℕ)

@@ -17,14 +17,14 @@ steps_before (step.Writing answer) =
     step.Variable NamesPipe ∷ step.Output (Ok true) ∷ step.BothWays (Ok tt) ∷ []
 
 -- this step was the last, behind those before it
-abbrev pub EndsWith : WayStep → List WayStep → List WayStep → Type 0
-EndsWith last old new = new ≡ old ++ (steps_before last ++ last ∷ [])
+abbrev pub IsLastStep : WayStep → List WayStep → List WayStep → Type 0
+IsLastStep last old new = new ≡ old ++ (steps_before last ++ last ∷ [])
 
 -- the last step failed for this reason. It is a failure if there is no memory to read the variable,
 -- and none if that names nothing
 abbrev pub EndsInFailure : ErrorKind → List WayStep → List WayStep → Type 0
 EndsInFailure reason old new =
-    (EndsWith (step.Variable OutOfMemory) old new × (reason ≡ kind.OutOfMemory))
-    ⊎ (EndsWith (step.Output (Err reason)) old new
-    ⊎ (EndsWith (step.BothWays (Err reason)) old new
-    ⊎ EndsWith (step.Writing (Err reason)) old new))
+    (IsLastStep (step.Variable OutOfMemory) old new × (reason ≡ kind.OutOfMemory))
+    ⊎ (IsLastStep (step.Output (Err reason)) old new
+    ⊎ (IsLastStep (step.BothWays (Err reason)) old new
+    ⊎ IsLastStep (step.Writing (Err reason)) old new))

@@ -29,7 +29,9 @@ mod way;
 mod writers;
 
 pub use laws::{notices_law, record_law};
-pub use memory::{MemoryDeed, MemoryOutputs, MemoryPipe, MemoryWay, ScreenLine, WayAnswers};
+pub use memory::{
+    MemoryDeed, MemoryOutputs, MemoryPipe, MemoryWay, OutputAnswers, ScreenLine, WayAnswers,
+};
 pub use notice::{Notice, NoticeText};
 pub use output::LineOutput;
 pub use owed::{

@@ -1,6 +1,7 @@
 ghost use Rattle.std.specs.Prelude.{◌≡◌, ◌∷◌, [], Option};
 ghost use Rattle.line_queue.specs.Entries.{capped_count};
-ghost use Rattle.line_queue.specs.LineOutputs.{Changes, HandsOn, Puts, Shows, Takes};
+ghost use Rattle.line_queue.specs.Handing.{HandsOn, Puts, Takes};
+ghost use Rattle.line_queue.specs.LineOutputs.{Changes, ShowsFile};
 ghost use Rattle.line_queue.specs.LineOutputs.{files_before, given_in, look_in};
 ghost use Rattle.line_queue.specs.Owed.{owed_by_outputs};
 ghost use Rattle.line_queue.specs.declared.owed.WrittenFile.{WrittenFile as FileOf};
@@ -58,8 +59,8 @@ impl<R: FilePipe, M: FilePipe<System = R::System>> Writers for QueuedOutputs<R, 
 
     fn owed_bytes(&mut self, system: &R::System) -> u64
         ensures same { self.new ≡ self.old }
-        ensures owed { (now : FilesOf) × Shows R.shows self.old.replies.queue now.output
-            × Shows M.shows self.old.messages.queue now.error × (result
+        ensures owed { (now : FilesOf) × ShowsFile R.shows self.old.replies.queue now.output
+            × ShowsFile M.shows self.old.messages.queue now.error × (result
             ≡ capped_count (owed_by_outputs (files_before self.old) (given_in self.old) now)) }
     {
         let given = GivenBytes {

@@ -1,5 +1,5 @@
 ghost use Rattle.std.specs.Prelude.{◌≡◌, ◌⊎◌, List, [], ◌∷◌, ◌++◌, true, false, IfErr, Ok};
-ghost use Rattle.line_queue.specs.Ways.{EndsInFailure, EndsWith};
+ghost use Rattle.line_queue.specs.Ways.{EndsInFailure, IsLastStep};
 ghost use Rattle.line_queue.specs.declared.way.PipeVariable.TheVariants.{NamesNothing};
 ghost use Rattle.line_queue.specs.declared.way.WayStep.{WayStep as StepOf};
 ghost use Rattle.line_queue.specs.declared.way.WayStep.TheVariants as step;
@@ -86,10 +86,10 @@ pub trait WaySystem {
 pub fn open_way<S: WaySystem>(system: &mut S) -> Result<bool, ErrorKind>
     ensures told { S.tells system.new → S.tells system.old }
     ensures pipe { S.tells system.new → result ≡ Ok true
-        → EndsWith (step.Writing (Ok tt)) (S.steps system.old) (S.steps system.new) }
+        → IsLastStep (step.Writing (Ok tt)) (S.steps system.old) (S.steps system.new) }
     ensures no_pipe { S.tells system.new → result ≡ Ok false
-        → EndsWith (step.Variable NamesNothing) (S.steps system.old) (S.steps system.new)
-        ⊎ EndsWith (step.Output (Ok false)) (S.steps system.old) (S.steps system.new) }
+        → IsLastStep (step.Variable NamesNothing) (S.steps system.old) (S.steps system.new)
+        ⊎ IsLastStep (step.Output (Ok false)) (S.steps system.old) (S.steps system.new) }
     ensures failure { IfErr result (λ reason. S.tells system.new
         → EndsInFailure reason (S.steps system.old) (S.steps system.new)) }
 {
