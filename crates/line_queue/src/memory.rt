@@ -1,4 +1,5 @@
 mod outputs;
+mod poll;
 mod record;
 mod way;
 mod writers;
@@ -13,6 +14,7 @@ ghost use Rattle.line_queue.specs.Pipes.{after_question, after_write};
 use crate::Pipe;
 use devices::memory::Faults;
 pub use outputs::{MemoryDeed, MemoryOutputs, OutputAnswers, ScreenLine};
+pub use poll::{MemoryPoll, PollAnswers};
 use std::alloc::Global;
 use std::io::ErrorKind;
 pub use way::{MemoryWay, WayAnswers};

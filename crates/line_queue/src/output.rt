@@ -25,8 +25,8 @@ impl<P: Drop> LineOutput<P> {
         LineOutput { queue: Some(queue) }
     }
 
-    /// A closed one.
-    pub fn closed() -> Self
+    /// A closed one: its lines go nowhere.
+    pub fn nowhere() -> Self
         ensures { result.queue ≡ None }
     {
         LineOutput { queue: None }

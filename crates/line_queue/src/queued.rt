@@ -36,12 +36,17 @@ pub struct QueuedOutputs<R, M> {
     before: WrittenFiles,
 }
 
-impl<R: Drop, M: Drop> QueuedOutputs<R, M> {
-    /// The outputs of a night, whose files were so before it.
-    pub fn new(replies: LineOutput<R>, messages: LineOutput<M>, before: WrittenFiles) -> Self
+impl<R: FilePipe + Drop, M: FilePipe<System = R::System> + Drop> QueuedOutputs<R, M> {
+    /// The outputs of a night that begins. It is looked how their files are before it.
+    pub fn open(replies: LineOutput<R>, messages: LineOutput<M>, system: &R::System) -> Self
         ensures outputs { (result.replies ≡ replies) × (result.messages ≡ messages) }
-        ensures before { files_before result ≡ before }
+        ensures before { ShowsFile R.shows replies.queue (files_before result).output
+            × ShowsFile M.shows messages.queue (files_before result).error }
     {
+        let before = WrittenFiles {
+            output: replies.written_file(system),
+            error: messages.written_file(system),
+        };
         QueuedOutputs {
             replies,
             messages,

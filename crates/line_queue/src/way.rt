@@ -4,6 +4,7 @@ ghost use Rattle.line_queue.specs.declared.way.PipeVariable.TheVariants.{NamesNo
 ghost use Rattle.line_queue.specs.declared.way.WayStep.{WayStep as StepOf};
 ghost use Rattle.line_queue.specs.declared.way.WayStep.TheVariants as step;
 
+use std::env::VarError;
 use std::io::ErrorKind;
 
 /// What the variable of the environment says that may name a pipe.
@@ -15,6 +16,20 @@ pub enum PipeVariable {
     NamesNothing,
     /// An allocation failed, so it is not known.
     OutOfMemory,
+}
+
+impl PipeVariable {
+    ghost use Rattle.line_queue.specs.Ways.{unread_variable};
+
+    /// What a variable says that cannot be read.
+    pub fn of_error(error: VarError) -> Self
+        ensures { result ≡ unread_variable error }
+    {
+        match error {
+            VarError::OutOfMemory => PipeVariable::OutOfMemory,
+            _ => PipeVariable::NamesNothing,
+        }
+    }
 }
 
 /// A step on the way of an output's bytes, with the answer of the system.

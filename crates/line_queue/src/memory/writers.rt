@@ -23,7 +23,8 @@ impl Writers for MemoryOutputs {
 
     fn wait_turn(&mut self, _system: &())
         ensures left { self.new.answers ≡ record self.old.answers {
-            owed = self.old.answers.owed - self.old.answers.step } }
+          owed = self.old.answers.owed - self.old.answers.step;
+        } }
         ensures keeps { KeepsDeed self.old self.new WaitTurn }
     {
         self.answers.owed = self.answers.owed.saturating_sub(self.answers.step);
