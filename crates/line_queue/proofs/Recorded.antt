@@ -5,7 +5,7 @@ use Rattle.std.proofs.lemmas.List.Elements.{All-head, All-tail}
 use Rattle.std.specs.Prelude.{All, map}
 use Rattle.line_queue.proofs.Watching.{output_look, watch_of}
 use Rattle.line_queue.specs.OutputDeeds.{OutputDeed}
-use Rattle.line_queue.specs.OutputDeeds.OutputDeed.{FinishLines, Message}
+use Rattle.line_queue.specs.OutputDeeds.OutputDeed.{AskIfLate, FinishLines, Line, Message}
 use Rattle.line_queue.specs.RecordLaws.{EndsAtFailure, RecordCall, RecordLaw, deeds_of, call_line}
 use Rattle.line_queue.specs.RecordLaws.{call_look, record_lines_in, looks_in, messages_in}
 use Rattle.line_queue.specs.RecordLaws as call
@@ -29,6 +29,34 @@ behind late gaps look calls =
     look_deeds (watch_of false late gaps) look
     ++ deeds_of (told_after (watch_of false late gaps) look) calls
 
+-- what no line changes, and what holds behind each look, holds of all calls
+module _ (Holds : OutputWatch → List OutputDeed → Type 0)
+    (none : (late : Bool) (gaps : ℕ) → Holds (watch_of false late gaps) [])
+    (put : (told : OutputWatch) (line : List ℕ) (deeds : List OutputDeed)
+    → Holds told deeds → Holds told (Line line ∷ deeds))
+    (ask : (told : OutputWatch) (is_late : Bool) (deeds : List OutputDeed)
+    → Holds told deeds → Holds told (AskIfLate is_late ∷ deeds))
+    (finish : (told : OutputWatch) (deeds : List OutputDeed)
+    → Holds told deeds → Holds told (FinishLines ∷ deeds))
+    (look : (failed now late : Bool) (found gaps : ℕ) (calls : List RecordCall)
+    → ((l : Bool) (g : ℕ) → Holds (watch_of false l g) (deeds_of (watch_of false l g) calls))
+    → Holds (watch_of false late gaps) (behind late gaps (output_look failed now found) calls))
+    where
+  behind_each : (calls : List RecordCall) (late : Bool) (gaps : ℕ)
+      → Holds (watch_of false late gaps) (deeds_of (watch_of false late gaps) calls)
+  behind_each [] late gaps = none late gaps
+  behind_each (call.keep line seen ∷ calls) late gaps =
+      put (watch_of false late gaps) line _
+      (look seen.has_failed seen.is_late late seen.gaps gaps calls (behind_each calls))
+  behind_each (call.copy line true seen ∷ calls) late gaps =
+      let told = watch_of false late gaps in
+      put told line _ (ask told true _ (finish told _
+      (look seen.has_failed seen.is_late late seen.gaps gaps calls (behind_each calls))))
+  behind_each (call.copy line false seen ∷ calls) late gaps =
+      let told = watch_of false late gaps in
+      put told line _ (ask told false _
+      (look seen.has_failed seen.is_late late seen.gaps gaps calls (behind_each calls)))
+
 -- ---- the first failure is told, and ends all
 
 ends_behind : (failed now late : Bool) (found gaps : ℕ) (calls : List RecordCall)
@@ -43,13 +71,8 @@ ends_behind false false true found gaps calls rest = rest false found
 
 ends_at : (calls : List RecordCall) (late : Bool) (gaps : ℕ)
     → EndsAtFailure false (deeds_of (watch_of false late gaps) calls)
-ends_at [] late gaps = tt
-ends_at (call.keep line look ∷ calls) late gaps =
-    ends_behind look.has_failed look.is_late late look.gaps gaps calls (ends_at calls)
-ends_at (call.copy line true look ∷ calls) late gaps =
-    ends_behind look.has_failed look.is_late late look.gaps gaps calls (ends_at calls)
-ends_at (call.copy line false look ∷ calls) late gaps =
-    ends_behind look.has_failed look.is_late late look.gaps gaps calls (ends_at calls)
+ends_at = behind_each (λ told deeds. EndsAtFailure false deeds) (λ late gaps. tt)
+    (λ told line deeds h. h) (λ told is_late deeds h. h) (λ told deeds h. h) ends_behind
 
 ends : (failed late : Bool) (gaps : ℕ) (calls : List RecordCall)
     → EndsAtFailure false (deeds_of (watch_of failed late gaps) calls)
@@ -76,13 +99,8 @@ notices_behind false false true found gaps calls rest =
 
 notices_at : (calls : List RecordCall) (late : Bool) (gaps : ℕ)
     → AreNotices (watch_of false late gaps) (deeds_of (watch_of false late gaps) calls)
-notices_at [] late gaps = refl
-notices_at (call.keep line look ∷ calls) late gaps =
-    notices_behind look.has_failed look.is_late late look.gaps gaps calls (notices_at calls)
-notices_at (call.copy line true look ∷ calls) late gaps =
-    notices_behind look.has_failed look.is_late late look.gaps gaps calls (notices_at calls)
-notices_at (call.copy line false look ∷ calls) late gaps =
-    notices_behind look.has_failed look.is_late late look.gaps gaps calls (notices_at calls)
+notices_at = behind_each AreNotices (λ late gaps. refl) (λ told line deeds h. h)
+    (λ told is_late deeds h. h) (λ told deeds h. h) notices_behind
 
 notices : (failed late : Bool) (gaps : ℕ) (calls : List RecordCall)
     → AreNotices (watch_of failed late gaps) (deeds_of (watch_of failed late gaps) calls)
