@@ -8,7 +8,8 @@ use Rattle.night_files.specs.CidLockLaws.{AreInOwnFolder, CidLockLaw, IsAnswered
 use Rattle.night_files.specs.CidLockLaws.{lock_step_fails}
 use Rattle.night_files.specs.CidLocks.{IsCidLock, IsFileOpening, IsFolderChoice, IsFolderLook}
 use Rattle.night_files.specs.CidLocks.{IsFolderMaking, IsNamedFolder, IsOwnFolder}
-use Rattle.night_files.specs.CidLocks.{UnlessHindered, UnlessTooLong, failure_answer, hindrance, is_own_folder}
+use Rattle.night_files.specs.CidLocks.{UnlessHindered, UnlessTooLong, failure_answer, hindrance}
+use Rattle.night_files.specs.CidLocks.{is_own_folder}
 use Rattle.night_files.specs.LockPaths.{lock_folder, lock_path}
 use Rattle.night_files.specs.declared.cid_lock.CidLockStep.{CidLockStep}
 use Rattle.night_files.specs.declared.cid_lock.CidLockStep.TheVariants as step

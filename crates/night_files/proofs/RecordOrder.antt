@@ -309,7 +309,8 @@ safe_first : (aim : RecordUse) (steps : List RecordStep) (result : Result Bool O
     → IsRecordLook aim steps result → value result ≡ true → list_any is_safe steps ≡ true
 safe_first aim (step.Look (Err fault) ∷ steps) result h is =
     absurd (true≢false (sym is ∙ ap value h.1))
-safe_first aim (step.Look (Ok found) ∷ steps) result h is = safe_look aim found.is_regular found.node
+safe_first aim (step.Look (Ok found) ∷ steps) result h is =
+    safe_look aim found.is_regular found.node
     (refusal_of aim found.is_regular found.length) steps result h is
 safe_first aim steps result h is = absurd h
 

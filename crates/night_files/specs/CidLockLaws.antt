@@ -47,7 +47,8 @@ lock_step_fails other = false
 
 -- nothing is done behind a step that failed
 abbrev pub StopsWithoutLock : List CidLockStep → Type 0
-StopsWithoutLock (step ∷ next ∷ steps) = (lock_step_fails step ≡ false) × StopsWithoutLock (next ∷ steps)
+StopsWithoutLock (step ∷ next ∷ steps) =
+    (lock_step_fails step ≡ false) × StopsWithoutLock (next ∷ steps)
 StopsWithoutLock steps = ⊤
 
 -- WHEREVER THE LOCK OF A CID IS ASKED FOR. The only file that is opened is that of the lock of this

@@ -116,12 +116,14 @@ IsNamedFolder cid user has_runtime steps result = ⊥
 -- the runtime folder is looked at first, and then the environment is
 abbrev pub IsFolderChoice : List ℕ → ℕ → StepsToLock
 IsFolderChoice cid user (step.Look path found ∷ steps) result =
-    (path.bytes ≡ runtime_folder user) × IsNamedFolder cid user (is_own_folder found user) steps result
+    (path.bytes ≡ runtime_folder user)
+    × IsNamedFolder cid user (is_own_folder found user) steps result
 IsFolderChoice cid user steps result = ⊥
 
 -- THE LOCK OF A CID: first it is asked who the user is
 abbrev pub IsCidLock : List ℕ → StepsToLock
-IsCidLock cid (step.User (Err fault) ∷ steps) result = EndsAsLock (failure_answer fault) steps result
+IsCidLock cid (step.User (Err fault) ∷ steps) result =
+    EndsAsLock (failure_answer fault) steps result
 IsCidLock cid (step.User (Ok user) ∷ steps) result = IsFolderChoice cid user steps result
 IsCidLock cid steps result = ⊥
 

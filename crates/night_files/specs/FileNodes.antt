@@ -1,6 +1,6 @@
 -- Which file it is, and by which descriptor the lock of a record is asked for.
-use Rattle.std.specs.Prelude.{ℕ, ℤ, pos, Bool, false, ◌&&◌, nat_eq, nat_lt, List, Option, Some, None}
-use Rattle.std.specs.Prelude.{if◌then◌else◌}
+use Rattle.std.specs.Prelude.{ℕ, ℤ, pos, Bool, false, ◌&&◌, nat_eq, nat_lt, List, Option, Some}
+use Rattle.std.specs.Prelude.{None, if◌then◌else◌}
 use Rattle.night_files.specs.LockLists.{descriptor_in}
 use Rattle.night_files.specs.declared.file_node.FileNode.{FileNode}
 

@@ -91,7 +91,8 @@ IsLockIfAny Resume true node steps result = IsLocking Resume node steps result
 
 -- before that it is looked at: no lock is asked for of a file that is refused anyway
 abbrev pub IsRecordLook : RecordUse → StepsToAnswer
-IsRecordLook aim (step.Look (Err fault) ∷ steps) result = EndsAsRecord (Err (File fault)) steps result
+IsRecordLook aim (step.Look (Err fault) ∷ steps) result =
+    EndsAsRecord (Err (File fault)) steps result
 IsRecordLook aim (step.Look (Ok found) ∷ steps) result = UnlessRefused
     (refusal_of aim found.is_regular found.length)
     (IsLockIfAny aim found.is_regular found.node) steps result

@@ -173,7 +173,8 @@ fn choose_folder<S: CidLockSystem>(
 ) -> Result<Option<S::File>, LockFault>
     ensures told { S.tells system.new → S.tells system.old }
     ensures steps { S.tells system.new → LeadToLock
-        (IsFolderChoice lock.now.cid lock.now.user) (S.steps system.old) (S.steps system.new) (lock_answer result) }
+        (IsFolderChoice lock.now.cid lock.now.user)
+        (S.steps system.old) (S.steps system.new) (lock_answer result) }
 {
     let runtime = system.look(&runtime_folder(lock.user));
     let named = match system.runtime_variable() {
@@ -199,7 +200,8 @@ fn make_folder<S: CidLockSystem>(
 ) -> Result<Option<S::File>, LockFault>
     ensures told { S.tells system.new → S.tells system.old }
     ensures steps { S.tells system.new → LeadToLock
-        (IsFolderMaking lock.now.cid lock.now.user folder.now.bytes) (S.steps system.old) (S.steps system.new) (lock_answer result) }
+        (IsFolderMaking lock.now.cid lock.now.user folder.now.bytes)
+        (S.steps system.old) (S.steps system.new) (lock_answer result) }
 {
     match hindrance(system.make_folder(folder)) {
         Some(fault) => without_lock(fault),
@@ -225,7 +227,8 @@ fn look_at_folder<S: CidLockSystem>(
 ) -> Result<Option<S::File>, LockFault>
     ensures told { S.tells system.new → S.tells system.old }
     ensures steps { S.tells system.new → LeadToLock
-        (IsFolderLook lock.now.cid lock.now.user folder.now.bytes) (S.steps system.old) (S.steps system.new) (lock_answer result) }
+        (IsFolderLook lock.now.cid lock.now.user folder.now.bytes)
+        (S.steps system.old) (S.steps system.new) (lock_answer result) }
 {
     if !FoundFolder::is_own(system.look(folder), lock.user) {
         return Ok(None);
