@@ -1,8 +1,8 @@
 ghost use Rattle.std.specs.Prelude.{[]};
 
+use crate::fault::DeviceFault;
 use crate::written_record::WrittenRecord;
 use devices::LinkFault;
-use night_files::DeviceFault;
 use night_record::{ComingLines, FirstLines, LineFront, NightLines, head_within};
 use std::io::ErrorKind;
 use std::thread::sleep;

@@ -1,10 +1,10 @@
 ghost use Rattle.std.specs.Prelude.{[], ⊤, false, None};
 
 use crate::descriptor_poll::DescriptorPoll;
+use crate::fault::DeviceFault;
 use crate::way::Way;
 use line_queue::{FilePipe, LineOutput, LineQueue, Notice, Pipe, WrittenFile};
 use mio::Interest;
-use night_files::DeviceFault;
 use std::io::{Error, ErrorKind, Result as IoResult, Write};
 use std::os::fd::AsRawFd;
 use std::thread::sleep;

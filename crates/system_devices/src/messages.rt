@@ -1,6 +1,6 @@
 use crate::bounded_output::{BoundedOutput, Names, open_output};
+use crate::fault::DeviceFault;
 use line_queue::{LineOutput, Notice};
-use night_files::DeviceFault;
 use std::io::Stderr;
 
 const NAMES: Names = Names {

@@ -1,10 +1,10 @@
 ghost use Rattle.std.specs.Prelude.{[]};
 
 use crate::descriptor_poll::DescriptorPoll;
+use crate::fault::DeviceFault;
 use devices::LinkFault;
 use live_machine::{Came, MachineInput};
 use mio::Interest;
-use night_files::DeviceFault;
 use std::io::{IsTerminal, Read};
 use std::os::fd::AsRawFd;
 

@@ -1,9 +1,9 @@
 ghost use Rattle.std.specs.Prelude.{[]};
 
 use crate::descriptor_poll::DescriptorPoll;
+use crate::fault::DeviceFault;
 use crate::record_lock::is_same;
 use mio::Interest;
-use night_files::DeviceFault;
 use night_record::Growth;
 use std::fs::{File, OpenOptions, metadata};
 use std::io::{Error, ErrorKind, Read};

@@ -1,0 +1,1 @@
+pub use night_files::DeviceFault;
