@@ -1,6 +1,6 @@
 ghost use Rattle.std.specs.Prelude.{[], is_none};
 
-use crate::descriptor_poll::DescriptorPoll;
+use crate::descriptor_poll::{DescriptorPoll, open_poll};
 use crate::fault::DeviceFault;
 use crate::record_lock::is_same;
 use mio::Interest;
@@ -39,7 +39,7 @@ impl WrittenRecord {
         let fifo = match kind {
             RecordKind::File => None,
             RecordKind::Fifo => {
-                let poll = DescriptorPoll::open(rt, file.as_raw_fd(), Interest::READABLE);
+                let poll = open_poll(rt, file.as_raw_fd(), Interest::READABLE);
                 Some(poll.map_err(of_system)?)
             }
         };
