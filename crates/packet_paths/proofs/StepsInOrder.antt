@@ -3,6 +3,7 @@ use Rattle.std.proofs.Common.{◌≡◌, ℕ, Bool, true, false, List, [], ◌�
 use Rattle.std.proofs.Common.{append_assoc}
 use Rattle.std.specs.Prelude.{IfNone, IfSome, Option, Some, None}
 use Rattle.link_notices.specs.declared.path.CardAddress.{CardAddress}
+use Rattle.network_tables.specs.declared.route.Route.{Route}
 use Rattle.packet_paths.specs.NetworkSteps.{NetworkStep}
 use Rattle.packet_paths.specs.Routes.{IsLookBefore}
 use Rattle.packet_paths.specs.NetworkLooks.{IsLookAlong}
@@ -48,12 +49,12 @@ look_made tells steps old new (Some source) before after waits looks =
 pub along_made : {S : Type 0} (tells : S → Type 0) (steps : S → List NetworkStep) (old new : S)
     (is_due : Bool) (source : CardAddress) (has_link any : Bool) (before after : Path)
     → (is_due ≡ false → (after ≡ record before { has_link = has_link }) × (new ≡ old))
-    → (is_due ≡ true → (route taker : Option (List ℕ))
+    → (is_due ≡ true → (route : Option (List ℕ)) × (table : Option Route)
     × IsFound route source before.route after.route
-    × (after ≡ with_route (toward route (record before { has_link = has_link }) taker) after.route
+    × (after ≡ with_route (toward route (record before { has_link = has_link }) table) after.route
     source any)
     × (tells new → steps new ≡ steps old
-    ++ Ask (question.Source before.host route) ∷ taker_questions route before taker
+    ++ Ask (question.Source before.host route) ∷ taker_questions route before table
     ++ card_questions before.host source before.route after.route))
     → (asked : List NetworkStep) × IsLookAlong is_due source has_link any before after asked
     × (tells new → steps new ≡ steps old ++ asked)
@@ -63,10 +64,10 @@ along_made tells steps old new false source has_link any before after waits look
   λ now. ap steps (waits refl).1 ∙ sym (append-nil (steps old)),
 )
 along_made tells steps old new true source has_link any before after waits looks =
-    let (route, taker, found, is, told) = looks refl in
-    let asked = Ask (question.Source before.host route) ∷ taker_questions route before taker in
+    let (route, table, found, is, told) = looks refl in
+    let asked = Ask (question.Source before.host route) ∷ taker_questions route before table in
     let cards = card_questions before.host source before.route after.route in (
       asked ++ cards,
-      (route, taker, found, is, refl),
+      (route, table, found, is, refl),
       λ now. told now ∙ append_assoc (steps old) asked cards,
     )

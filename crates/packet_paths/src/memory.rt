@@ -10,7 +10,7 @@ ghost use Rattle.packet_paths.specs.declared.system.Question.TheVariants as ques
 use crate::card_system::{CardQuestion, CardSystem};
 use crate::system::{Question, RouteSystem};
 use memory_steps::MemorySteps;
-use network_tables::{CardName, CardState, Cards};
+use network_tables::{CardName, CardState, Cards, Route};
 
 /// What a system over memory answers.
 #[derive(Clone, Copy, Debug)]
@@ -21,8 +21,8 @@ pub struct RouteAnswers {
     pub source: Option<[u8; 4]>,
     /// The card of each address.
     pub card: CardName,
-    /// Who takes the packets to any host first.
-    pub neighbor: Option<[u8; 4]>,
+    /// The route that leads to any host.
+    pub route: Option<Route>,
 }
 
 /// A system over memory.
@@ -60,13 +60,13 @@ impl RouteSystem for MemorySystem {
         card
     }
 
-    fn neighbor_to(&mut self, host: [u8; 4], address: [u8; 4]) -> Option<[u8; 4]>
-        ensures answer { result ≡ self.old.answers.neighbor }
-        ensures keeps { OnlyKeeps self.old self.new (question.Neighbor host address result) }
+    fn route_to(&mut self, host: [u8; 4]) -> Option<Route>
+        ensures answer { result ≡ self.old.answers.route }
+        ensures keeps { OnlyKeeps self.old self.new (question.Route host result) }
     {
-        let neighbor = self.answers.neighbor;
-        self.keep(Question::Neighbor(host, address, neighbor));
-        neighbor
+        let route = self.answers.route;
+        self.keep(Question::Route(host, route));
+        route
     }
 }
 
