@@ -1,5 +1,6 @@
 ghost use Rattle.std.specs.Prelude.{◌≡◌, ◌≤◌, ◌<◌, ◌+◌, ◌∷◌, ◌++◌, [], true, false, length, map};
 ghost use Rattle.std.specs.Prelude.{flat_map, ℕ, List, None, Option, Some};
+ghost use Rattle.std.specs.Duration.{as_nanos};
 ghost use Rattle.std.specs.List.{enumerate_from};
 ghost use Rattle.link_notices.specs.declared.look.NetworkLook.{NetworkLook as LookOf};
 ghost use Rattle.link_notices.specs.Looks.{path_look};
@@ -17,6 +18,7 @@ use crate::path::{PathState, Trouble, trouble_of};
 use crate::watch::{PathWatch, SourceWatch};
 use arrayvec::ArrayVec;
 use live_machine::{MachineClock, TURN};
+use std::time::Duration;
 use targets::MOST_TARGETS;
 
 type SourceWatches = ArrayVec<SourceWatch, MOST_SOURCES>;
@@ -126,9 +128,15 @@ fn time_by<C: MachineClock>(clock: &mut C) -> Option<u64>
         × (C.tells clock.new → C.tape clock.new ≡ with_reading (C.tape clock.old) passed) }
 {
     match clock.time_passed() {
-        Ok(passed) => u64::try_from(passed.as_millis()).ok(),
+        Ok(passed) => milliseconds_of(passed),
         Err(_) => None,
     }
+}
+
+fn milliseconds_of(passed: Duration) -> Option<u64>
+    ensures { result ≡ look_time (Some (as_nanos passed)) }
+{
+    u64::try_from(passed.as_millis()).ok()
 }
 
 // Each look begins a turn.
