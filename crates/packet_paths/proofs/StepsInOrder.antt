@@ -1,13 +1,14 @@
 -- Steps behind steps, where the system tells.
 use Rattle.std.proofs.Common.{◌≡◌, ℕ, Bool, true, false, List, [], ◌∷◌, ◌++◌, ◌∙◌, ap, sym, refl, append-nil}
 use Rattle.std.proofs.Common.{append_assoc}
-use Rattle.std.specs.Prelude.{IfNone, IfSome, Option, Some, None}
+use Rattle.std.specs.Prelude.{IfNone, IfSome, Option, Some, None, Result}
+use Rattle.std.specs.declared.io.ErrorKind.{ErrorKind}
 use Rattle.link_notices.specs.declared.path.CardAddress.{CardAddress}
 use Rattle.network_tables.specs.declared.route.Route.{Route}
 use Rattle.packet_paths.specs.NetworkSteps.{NetworkStep}
 use Rattle.packet_paths.specs.Routes.{IsLookBefore}
 use Rattle.packet_paths.specs.NetworkLooks.{IsLookAlong}
-use Rattle.packet_paths.specs.NetworkSteps.NetworkStep.{Ask}
+use Rattle.packet_paths.specs.NetworkSteps.NetworkStep.{Ask, OpenSocket}
 use Rattle.packet_paths.specs.Routes.{IsFound, card_questions, with_route}
 use Rattle.packet_paths.specs.Sends.{IsPathLook}
 use Rattle.packet_paths.specs.Takers.{taker_questions, toward}
@@ -23,6 +24,19 @@ pub behind : {S : Type 0} (tells : S → Type 0) (steps : S → List NetworkStep
 behind tells steps old middle new first more told is_first is_more now =
     is_more now ∙ ap (λ all. all ++ more) (is_first (told now))
     ∙ append_assoc (steps old) first more
+
+-- a socket is opened, and the steps of a tie, which have a place in them, come behind that
+pub tied_behind : {S : Type 0} (tells : S → Type 0) (steps : S → List NetworkStep)
+    (old middle new : S) (address : List ℕ) (answer opened : Result (Unit {0}) ErrorKind)
+    (n place : ℕ) (more : ℕ → List NetworkStep) → answer ≡ opened → n ≡ place
+    → (tells new → tells middle)
+    → (tells middle → steps middle ≡ steps old ++ OpenSocket address answer ∷ [])
+    → (tells new → steps new ≡ steps middle ++ more n)
+    → tells new → steps new ≡ steps old ++ (OpenSocket address opened ∷ more place)
+tied_behind tells steps old middle new address answer opened n place more same at told first last =
+    behind tells steps old middle new (OpenSocket address opened ∷ []) (more place) told
+    (λ now. first now ∙ ap (λ a. steps old ++ OpenSocket address a ∷ []) same)
+    (λ now. last now ∙ ap (λ n. steps middle ++ more n) at)
 
 pub none_made : {S : Type 0} (tells : S → Type 0) (steps : S → List NetworkStep) (old : S)
     → tells old → steps old ≡ steps old ++ []

@@ -144,7 +144,7 @@ impl RouteSystem for MemorySockets {
     {
         let answer = self.answers.route;
         self.keep(MemoryStep::Ask(Question::Route(host, answer)));
-        answer
+        self.answers.route
     }
 }
 
