@@ -13,7 +13,6 @@ mod descriptor_poll;
 mod fault;
 mod host_name;
 mod input;
-mod lock_holder;
 mod machine;
 mod messages;
 mod network;
@@ -33,7 +32,7 @@ mod typed_input;
 mod way;
 mod written_record;
 
-pub use appended_lines::AppendedLines;
+pub use appended_lines::{AppendedLines, are_lines_there, lines_in_time};
 pub use bounded_output::{BoundedOutput, Names, PolledWay, open_output};
 pub use cards::read_cards;
 pub use cid_lock::{CidLock, LockFault};
@@ -43,12 +42,13 @@ pub use input::SystemInput;
 pub use machine::SystemClock;
 pub use messages::{Messages, open_messages};
 pub use network::Network;
+pub use night_files::RecordFault;
 pub use output::SystemOutput;
 pub use packet_paths::{
     Leaving, NamedRefusal, NetworkRefusal, Path, Source, is_multicast, source_by_name,
 };
 pub use record::Record;
-pub use record_file::{Pause, RecordFault, RecordFile};
+pub use record_file::{Pause, RecordFile};
 pub use record_lock::remove_unused_record;
 pub use routes::route_to;
 pub use shared_network::SharedNetwork;
