@@ -41,21 +41,21 @@ module _ (Holds : OutputWatch → List OutputDeed → Type 0)
     (look : (failed now late : Bool) (found gaps : ℕ) (calls : List RecordCall)
     → ((l : Bool) (g : ℕ) → Holds (watch_of false l g) (deeds_of (watch_of false l g) calls))
     → Holds (watch_of false late gaps) (behind late gaps (output_look failed now found) calls))
-    where
-  behind_each : (calls : List RecordCall) (late : Bool) (gaps : ℕ)
-      → Holds (watch_of false late gaps) (deeds_of (watch_of false late gaps) calls)
-  behind_each [] late gaps = none late gaps
-  behind_each (call.keep line seen ∷ calls) late gaps =
-      put (watch_of false late gaps) line _
-      (look seen.has_failed seen.is_late late seen.gaps gaps calls (behind_each calls))
-  behind_each (call.copy line true seen ∷ calls) late gaps =
-      let told = watch_of false late gaps in
-      put told line _ (ask told true _ (finish told _
-      (look seen.has_failed seen.is_late late seen.gaps gaps calls (behind_each calls))))
-  behind_each (call.copy line false seen ∷ calls) late gaps =
-      let told = watch_of false late gaps in
-      put told line _ (ask told false _
-      (look seen.has_failed seen.is_late late seen.gaps gaps calls (behind_each calls)))
+  where
+    behind_each : (calls : List RecordCall) (late : Bool) (gaps : ℕ)
+        → Holds (watch_of false late gaps) (deeds_of (watch_of false late gaps) calls)
+    behind_each [] late gaps = none late gaps
+    behind_each (call.keep line seen ∷ calls) late gaps =
+        put (watch_of false late gaps) line _
+        (look seen.has_failed seen.is_late late seen.gaps gaps calls (behind_each calls))
+    behind_each (call.copy line true seen ∷ calls) late gaps =
+        let told = watch_of false late gaps in
+        put told line _ (ask told true _ (finish told _
+        (look seen.has_failed seen.is_late late seen.gaps gaps calls (behind_each calls))))
+    behind_each (call.copy line false seen ∷ calls) late gaps =
+        let told = watch_of false late gaps in
+        put told line _ (ask told false _
+        (look seen.has_failed seen.is_late late seen.gaps gaps calls (behind_each calls)))
 
 -- ---- the first failure is told, and ends all
 
