@@ -20,6 +20,7 @@ fn lines_of_a_record_are_numbered(rt: HostRuntime) {
     assert!(rt; is_text(second.as_ref(), b"25 tick") && lines.number == 2);
     assert!(rt; lines.bytes_given() == 15);
     assert!(rt; lines.next_line().is_none() && lines.look() == Ok(false));
+    assert!(rt; lines.next_line().is_none());
     assert!(rt; lines.look_for_line().is_err() && lines.number == 2);
 }
 
