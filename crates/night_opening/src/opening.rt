@@ -10,7 +10,7 @@ use crate::run_fault::run_fault;
 use cmd_faults::RunFault;
 use cmd_live::{Night, Silent};
 use fade::Fader;
-use night_record::{NightOpening, RecordHead};
+use night_record::NightOpening;
 use remarks::{JobFault, Refusal};
 use std::alloc::Global;
 
@@ -26,13 +26,13 @@ const HEAD_LINES: u64 = 2;
 pub fn opening_of(
     bill: &Playbill<'_, '_>,
     clock: Option<ClockText>,
-    record: &Option<&[u8]>,
+    kept: &Option<&[u8]>,
 ) -> Result<NightOpening, JobFault>
     ensures { IsOpeningBy bill.now.night.now bill.now.show.now
-        (option_map (λ text. text.bytes) clock) (option_map (λ text. text.now) record.now)
+        (option_map (λ text. text.bytes) clock) (option_map (λ text. text.now) kept.now)
         result }
 {
-    match record {
+    match kept {
         Some(text) => opening_by(bill, clock, text),
         None => Ok(NightOpening::none()),
     }
@@ -63,14 +63,14 @@ pub fn open_night<F: Fader>(
     alloc: Global,
     bill: &Playbill<'_, '_>,
     opening: &NightOpening,
-    record: &Option<&[u8]>,
+    kept: &Option<&[u8]>,
 ) -> Result<Night<F>, JobFault>
     ensures playable { IfOk result (λ night. IsPlayable F.stands_for night) }
     ensures opens { OpensBy F.stands_for bill.now opening.now
-        (text_in_record (option_map (λ text. text.now) record.now)) result }
+        (text_in_record (option_map (λ text. text.now) kept.now)) result }
 {
     let mut night = new_night(alloc, bill)?;
-    match start(&mut night, bill, opening, text_in_record(record)) {
+    match start(&mut night, bill, opening, text_in_record(kept)) {
         Ok(()) => Ok(night),
         Err(fault) => Err(fault),
     }
@@ -91,10 +91,10 @@ pub fn new_night<F: Fader>(alloc: Global, bill: &Playbill<'_, '_>) -> Result<Nig
     }
 }
 
-fn text_in_record<'t>(record: &Option<&'t [u8]>) -> &'t [u8]
-    ensures { result.now ≡ text_in_record (option_map (λ text. text.now) record.now) }
+fn text_in_record<'t>(kept: &Option<&'t [u8]>) -> &'t [u8]
+    ensures { result.now ≡ text_in_record (option_map (λ text. text.now) kept.now) }
 {
-    match record {
+    match kept {
         Some(text) => text,
         None => &[],
     }

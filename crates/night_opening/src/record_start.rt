@@ -44,16 +44,16 @@ pub trait RecordStart {
 /// # Errors
 ///
 /// Why the file does not keep the night; then nothing is written.
-pub fn begin_record<R: RecordStart>(record: &mut R, opening: &NightOpening) -> Result<(), R::Fault>
-    ensures told { R.tells record.new → R.tells record.old }
-    ensures ok { OnOk result (R.tells record.new
-        → R.steps record.new ≡ R.steps record.old ++ begin_deeds opening.now) }
-    ensures err { OnErr result (R.tells record.new → R.steps record.new
-        ≡ R.steps record.old ++ keeps_bytes opening.now.lines.to false ∷ []) }
+pub fn begin_record<R: RecordStart>(file: &mut R, opening: &NightOpening) -> Result<(), R::Fault>
+    ensures told { R.tells file.new → R.tells file.old }
+    ensures ok { OnOk result (R.tells file.new
+        → R.steps file.new ≡ R.steps file.old ++ begin_deeds opening.now) }
+    ensures err { OnErr result (R.tells file.new → R.steps file.new
+        ≡ R.steps file.old ++ keeps_bytes opening.now.lines.to false ∷ []) }
 {
-    record.keep_bytes(opening.lines.to)?;
+    file.keep_bytes(opening.lines.to)?;
     if let Some(head) = &opening.head {
-        record.write(head.as_slice());
+        file.write(head.as_slice());
     }
     Ok(())
 }

@@ -54,7 +54,7 @@ pub trait StandardStreams {
 /// `Device` at the first that is closed; none behind it is asked for.
 pub fn ask_for_standard<S: StandardStreams>(streams: &mut S) -> Result<(), Failure>
     ensures told { S.tells streams.new → S.tells streams.old }
-    ensures open { OnOk result (S.tells streams.new → S.steps streams.new ≡ S.steps streams.old
+    ensures ok { OnOk result (S.tells streams.new → S.steps streams.new ≡ S.steps streams.old
         ++ open_stream stream.Input ∷ open_stream stream.Output ∷ open_stream stream.Error ∷ []) }
     ensures closed { IfErr result (λ failure. (which : StandardStream) × (kind : KindOf)
         × Fails run.Device (of_device (stream_name which) kind) failure
@@ -74,7 +74,7 @@ pub fn ask_for_standard<S: StandardStreams>(streams: &mut S) -> Result<(), Failu
 /// `Device` where standard output is closed; then nothing else is asked for.
 pub fn ask_for_screen<S: StandardStreams>(streams: &mut S) -> Result<bool, Failure>
     ensures told { S.tells streams.new → S.tells streams.old }
-    ensures open { IfOk result (λ is_told. S.tells streams.new
+    ensures ok { IfOk result (λ is_told. S.tells streams.new
         → (closed : Option KindOf) × (is_told ≡ is_none closed)
         × (S.steps streams.new ≡ S.steps streams.old
         ++ open_stream stream.Output ∷ stream_step stream.Error closed ∷ [])) }
@@ -89,7 +89,7 @@ pub fn ask_for_screen<S: StandardStreams>(streams: &mut S) -> Result<bool, Failu
 
 fn ask_for<S: StandardStreams>(streams: &mut S, stream: StandardStream) -> Result<(), Failure>
     ensures told { S.tells streams.new → S.tells streams.old }
-    ensures open { OnOk result (S.tells streams.new
+    ensures ok { OnOk result (S.tells streams.new
         → S.steps streams.new ≡ S.steps streams.old ++ open_stream stream ∷ []) }
     ensures closed { IfErr result (λ failure. (kind : KindOf)
         × Fails run.Device (of_device (stream_name stream) kind) failure
