@@ -1,4 +1,4 @@
-ghost use Rattle.std.specs.Prelude.{◌≡◌, ℕ, List, [], ◌∷◌, ◌++◌, IfErr, IfOk, OnOk, is_none};
+ghost use Rattle.std.specs.Prelude.{◌≡◌, List, Option, [], ◌∷◌, ◌++◌, IfErr, IfOk, OnOk, is_none};
 ghost use Rattle.std.specs.declared.io.ErrorKind.{ErrorKind as KindOf};
 ghost use Rattle.cmd_faults.specs.declared.fault.RunFault.TheVariants as run;
 ghost use Rattle.remarks.specs.Failures.{Fails};
