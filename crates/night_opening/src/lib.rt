@@ -9,8 +9,8 @@
 
 mod fit;
 mod head;
-mod live_name;
 pub mod memory;
+mod night_name;
 mod opening;
 mod playbill;
 mod record_start;
@@ -21,7 +21,7 @@ mod text;
 
 pub use fit::check_targets;
 pub use head::{ClockText, head_of};
-pub use live_name::{RecordLook, live_name};
+pub use night_name::{RecordLook, live_name};
 pub use opening::{new_night, open_night, opening_of};
 pub use playbill::{LiveWords, MainWords, Playbill};
 pub use record_start::{RecordStart, begin_record, counted_pause};

@@ -3,7 +3,7 @@ ghost use Rattle.memory_steps.specs.Keeping.{OnlyKeeps};
 ghost use Rattle.night_opening.specs.MemoryLook.{memory_lines, seen_step};
 ghost use Rattle.night_opening.specs.declared.memory.look.LookedAt.TheVariants as step;
 
-use crate::live_name::RecordLook;
+use crate::night_name::RecordLook;
 use memory_steps::MemorySteps;
 use night_record::FirstLines;
 
