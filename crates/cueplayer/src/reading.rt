@@ -9,7 +9,7 @@ use night_opening::TextSource;
 use night_record::FirstLines;
 use remarks::{Failure, JobFault};
 use std::fs::File;
-use system_devices::{AppendedLines, DeviceFault};
+use system_devices::{AppendedLines, DeviceFault, lines_in_time};
 
 // One byte more than a script may have, so that a longer one is seen.
 const MOST_OF_SCRIPT: usize = LONGEST_SCRIPT + 1;
@@ -97,14 +97,9 @@ pub fn record_lines(
 ) -> Result<Option<(FirstLines, AppendedLines)>, Failure>
     ensures fault { IfErr result IsUnread }
 {
-    let mut lines = match AppendedLines::open(rt, name) {
-        Ok(Some(lines)) => lines,
-        Ok(None) => return Ok(None),
-        Err(DeviceFault::Device(_, kind)) => return Err(Failure::of_device(name, kind)),
-        Err(DeviceFault::Memory) => return Err(Failure::from(RunFault::Memory)),
-    };
-    match lines.first_two(rt, milliseconds) {
-        Some(head) => Ok(Some((head, lines))),
-        None => Ok(None),
+    match lines_in_time(rt, name, milliseconds) {
+        Ok(found) => Ok(found),
+        Err(DeviceFault::Device(_, kind)) => Err(Failure::of_device(name, kind)),
+        Err(DeviceFault::Memory) => Err(Failure::from(RunFault::Memory)),
     }
 }
