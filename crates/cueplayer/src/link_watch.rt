@@ -1,8 +1,9 @@
-use crate::network_lines::night_sources;
 use crate::screen::Screen;
 use link_notices::{LinkNotice, LinkNotices, LinkWatch, NetworkLook};
 use network_tables::Route;
-use night_lines::{NoticeNetwork, RoutedNotice, RoutedNotices, host_to_route, tell_notices};
+use night_lines::{
+    NoticeNetwork, RoutedNotice, RoutedNotices, host_to_route, night_sources, tell_notices,
+};
 use std::cell::RefCell;
 use std::time::Instant;
 use system_devices::{Network, Path, SystemNetwork, route_to};
@@ -56,7 +57,7 @@ impl<'a> LinkTeller<'a> {
         let Ok(network) = self.network.try_borrow() else {
             return;
         };
-        let sources = night_sources(&network);
+        let sources = night_sources(network.sources());
         let told = NoticeNetwork {
             sources: sources.as_slice(),
             paths: network.paths(),

@@ -1,2 +1,4 @@
 pub mod Faults
 pub mod Fits
+pub mod Interrupts
+pub mod NightStarts
