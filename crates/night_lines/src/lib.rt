@@ -40,7 +40,7 @@ pub use follow::{
 pub use found_network::{FoundNetwork, find_network, night_sources};
 pub use lookup::{LookupStep, NetworkLookup};
 pub use night_source::{NightSource, NightSources};
-pub use notices::{NoticeNetwork, RoutedNotice, RoutedNotices, host_to_route, tell_notices};
+pub use notices::{NoticeNetwork, tell_notices};
 pub use other_cards::{OtherCardsLine, other_cards_line};
 pub use path_notices::{Way, path_notice_line};
 pub use place::Place;
