@@ -1,8 +1,8 @@
 ghost use Rattle.std.specs.Prelude.{[]};
 
 use crate::cards::open_network;
-use crate::device_failure::{of_device_fault, of_lock_fault, of_record};
-use crate::jobs::{NO_LOCK, link_of, run_end};
+use crate::device_failure::{of_device_fault, of_record};
+use crate::line_night::link_of;
 use crate::live_booth::LiveBooth;
 use crate::live_job::{LiveWords, Playbill};
 use crate::opening::opening_of;
@@ -15,7 +15,7 @@ use live_machine::{
 };
 use night_lines::{Place, Recording};
 use night_record::NightOpening;
-use remarks::{Failure, JobFault};
+use remarks::{Failure, JobFault, no_lock, of_lock, run_end};
 use std::cell::RefCell;
 use std::time::Instant;
 use system_devices::{CardSender, CidLock, Network, Pause, Record, RecordFile, TypedInput};
@@ -256,7 +256,7 @@ impl DeviceSystem for SystemDevices<'_, '_, '_> {
     }
 
     fn take_cid_lock(&mut self) -> Result<Option<CidLock>, JobFault> {
-        Ok(CidLock::take(self.rt, self.bill.night.cid).map_err(of_lock_fault)?)
+        Ok(CidLock::take(self.rt, self.bill.night.cid).map_err(of_lock)?)
     }
 
     fn open_network(&mut self) -> Result<Network, JobFault> {
@@ -286,7 +286,7 @@ impl StartSystem for SystemStart<'_, '_, '_, '_> {
     fn tell_missing_locks(&mut self) {
         let devices = &mut *self.devices;
         if devices.lock.is_none() {
-            devices.screen.tell(NO_LOCK);
+            devices.screen.tell(no_lock());
         }
         if let Some(file) = &devices.file
             && !file.has_lock()

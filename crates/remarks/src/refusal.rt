@@ -35,38 +35,24 @@ impl Refusal {
     pub fn no_record() -> Refusal
         ensures { Rejects no_record (remark_of (record_rule ∷ [])) result }
     {
-        Refusal {
-            line: line_of("no record of live", "", ""),
-            remark: plain(
-                "a night goes on in a file that live began: its first line says whose it is",
-            ),
-        }
+        let rule = "a night goes on in a file that live began: its first line says whose it is";
+        of_rule("no record of live", rule)
     }
 
     /// What was to be followed has no head, or is neither a file nor a FIFO.
     pub fn no_main() -> Refusal
         ensures { Rejects no_record (remark_of (main_rule ∷ [])) result }
     {
-        Refusal {
-            line: line_of("no record of live", "", ""),
-            remark: plain(
-                "a main's record is one that live keeps: its first line says whose it is",
-            ),
-        }
+        let rule = "a main's record is one that live keeps: its first line says whose it is";
+        of_rule("no record of live", rule)
     }
 
     /// The main that was to be followed sends under the CID of this night.
     pub fn shared_cid() -> Refusal
         ensures { Rejects shared_cid (remark_of (cid_rule ∷ [])) result }
     {
-        Refusal {
-            line: line_of(
-                "the same cid as --cid: a backup has a CID of its own",
-                "",
-                "",
-            ),
-            remark: plain("uuidgen prints one"),
-        }
+        let line = "the same cid as --cid: a backup has a CID of its own";
+        of_rule(line, "uuidgen prints one")
     }
 
     /// The main's record has come to the end of its night.
@@ -74,10 +60,7 @@ impl Refusal {
         ensures { Rejects over (remark_of (codes "a backup follows a night that is on" ∷ []))
             result }
     {
-        Refusal {
-            line: line_of("the night has ended", "", ""),
-            remark: plain("a backup follows a night that is on"),
-        }
+        of_rule("the night has ended", "a backup follows a night that is on")
     }
 
     /// Why a night does not go on in its own record.
@@ -161,10 +144,7 @@ impl Refusal {
         ensures { Rejects over (remark_of (codes "give another FILE for the next night" ∷ []))
             result }
     {
-        Refusal {
-            line: line_of("the night has ended", "", ""),
-            remark: plain("give another FILE for the next night"),
-        }
+        of_rule("the night has ended", "give another FILE for the next night")
     }
 
     /// Another night is kept in this file, by this process where that is known.
@@ -194,6 +174,17 @@ impl Refusal {
             ),
             remark: Remark::new(),
         }
+    }
+}
+
+// A refusal by this line, with what would be right.
+fn of_rule(line: &str, rule: &str) -> Refusal
+    requires { length line.now ≤ 300 }
+    ensures { Rejects line.now (remark_of (rule.now ∷ [])) result }
+{
+    Refusal {
+        line: line_of(line, "", ""),
+        remark: plain(rule),
     }
 }
 

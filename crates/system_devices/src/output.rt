@@ -1,6 +1,7 @@
 ghost use Rattle.std.specs.Prelude.{[]};
 
 use devices::{LinkFault, Output};
+use job_devices::JobOutput;
 use std::io::{ErrorKind, Write};
 
 /// An output of the system: a file, a pipe or a terminal. It does not tell what it took.
@@ -19,29 +20,6 @@ impl<W: Write> SystemOutput<W> {
             is_empty: true,
         }
     }
-
-    /// Hands on what a buffer still holds.
-    pub fn flush(&mut self) -> Result<(), LinkFault> {
-        match self.inner.flush() {
-            Ok(()) => Ok(()),
-            Err(error) => {
-                self.failure = Some(error.kind());
-                Err(LinkFault)
-            }
-        }
-    }
-}
-
-impl<W> SystemOutput<W> {
-    /// The system's reason where a write failed: that of the last.
-    pub fn failure(&self) -> Option<ErrorKind> {
-        self.failure
-    }
-
-    /// Whether it was handed no byte so far.
-    pub fn is_empty(&self) -> bool {
-        self.is_empty
-    }
 }
 
 impl<W: Write> Output for SystemOutput<W> {
@@ -52,6 +30,30 @@ impl<W: Write> Output for SystemOutput<W> {
     fn write(&mut self, bytes: &[u8]) -> Result<(), LinkFault> {
         self.is_empty &= bytes.is_empty();
         match self.inner.write_all(bytes) {
+            Ok(()) => Ok(()),
+            Err(error) => {
+                self.failure = Some(error.kind());
+                Err(LinkFault)
+            }
+        }
+    }
+}
+
+impl<W: Write> JobOutput for SystemOutput<W> {
+    ghost reason = { λ out. out.failure };
+
+    ghost is_handed_on = { λ _. ⊥ };
+
+    fn failure(&self) -> Option<ErrorKind> {
+        self.failure
+    }
+
+    fn is_empty(&self) -> bool {
+        self.is_empty
+    }
+
+    fn flush(&mut self) -> Result<(), LinkFault> {
+        match self.inner.flush() {
             Ok(()) => Ok(()),
             Err(error) => {
                 self.failure = Some(error.kind());
