@@ -2,16 +2,14 @@ ghost use Rattle.std.specs.Prelude.{◌≡◌, ◌≤◌, ◌<◌, ◌^◌, All,
 ghost use Rattle.cmd_words.specs.Job.{IsJobInRange};
 ghost use Rattle.cmd_words.specs.Source.{source_name};
 
-use crate::cards::open_network;
-use crate::device_failure::{of_lock_fault, of_socket, of_socket_fault};
+use crate::device_failure::{of_socket, of_socket_fault};
+use crate::line_night::play_lines;
 use crate::live_job::{LiveWords, MainWords, play_live};
-use crate::reading::{file_text, script_text, show_text, suitable_show};
-use crate::standard::ask_for_standard;
+use crate::reading::{file_text, script_text, show_text};
 use cmd_cues::{cues, cues_json};
 use cmd_explain::{Weight, explain, seems, weigh};
 use cmd_faults::RunFault;
 use cmd_listen::{listen, watch};
-use cmd_play::{Setup, play};
 use cmd_rehearse::rehearse_text;
 use cmd_show::{check, look, slots};
 use cmd_words::{Job, Name, Night, source_name};
@@ -23,7 +21,7 @@ use sacn_source::Identity;
 use show_reader::read_show;
 use std::cell::RefCell;
 use std::io::{BufWriter, ErrorKind, Stdout};
-use system_devices::{CardSender, CidLock, Network, ReceivingSocket, SystemInput, SystemOutput};
+use system_devices::{CardSender, Network, ReceivingSocket, SystemInput, SystemOutput};
 use targets::TargetLink;
 
 /// Told where a night has no lock of its CID.
@@ -112,8 +110,8 @@ fn weight_of(rt: &HostRuntime, text: &[u8]) -> Result<Weight, Failure>
     weigh(rt.alloc(), text, &loaded).map_err(|_| Failure::from(RunFault::Memory))
 }
 
-// Tells what the file of a show without cues seems to be, where that is no text.
-fn tell_seeming(rt: &HostRuntime, text: &[u8]) {
+/// Tells what the file of a show without cues seems to be, where that is no text.
+pub fn tell_seeming(rt: &HostRuntime, text: &[u8]) {
     if let Some(what) = seems(text)
         && let Ok(loaded) = read_show(rt.alloc(), text)
         && loaded.show.counts().cues == 0
@@ -200,32 +198,6 @@ fn watch_lines(rt: &HostRuntime, universes: &[u16]) -> Result<(), Failure>
     let mut out = SystemOutput::new(rt.stdout());
     let answer = watch(rt.alloc(), &mut input, universes, &mut out);
     answer.map_err(|fault| Failure::of_watch(fault, out.failure()))
-}
-
-// Plays the lines of standard input.
-fn play_lines(rt: &HostRuntime, night: &Night) -> Result<(), JobFault>
-    requires { night.now.priority ≤ 200 }
-{
-    let source = identity(night)?;
-    ask_for_standard(rt)?;
-    let text = suitable_show(rt, night)?;
-    let text = text.as_slice();
-    tell_seeming(rt, text);
-    let lock = CidLock::take(rt, night.cid).map_err(of_lock_fault)?;
-    if lock.is_none() {
-        tell(rt, NO_LOCK);
-    }
-    let network = RefCell::new(open_network(rt, night, false)?);
-    let mut link = link_of(rt, &network, night);
-    let mut input = SystemInput::new(rt.stdin());
-    let mut out = SystemOutput::new(rt.stdout());
-    let setup = Setup {
-        show: text,
-        identity: source,
-        base: night.base,
-    };
-    let answer = play::<StepFader, _, _, _>(rt.alloc(), setup, &mut input, &mut link, &mut out);
-    Ok(night_end(answer, text, &network, out.failure())?)
 }
 
 /// What sends the packets of a night.

@@ -4,6 +4,7 @@
 mod cards;
 mod device_failure;
 mod jobs;
+mod line_night;
 mod link_watch;
 mod live_booth;
 mod live_devices;
