@@ -241,29 +241,11 @@ class Live(LiveTest):
 
     def test_refused_lines(self):
         """A line that is no command ends nothing, and is told with what can be printed of it."""
-        lines = [
-            b"jump",
-            b"go now",
-            b"tick",
-            b"5 go",
-            b"sub 1",
-            b"goto 0",
-            b"g\0o",
-            b"caf\xc3\xa9",
-            b"x" * 500,
-        ]
-        outcome = run(*self.words(), stdin=b"\n".join(lines) + b"\n  ! nothing\n\nGO ! now\n")
-        told = [
-            b"jump",
-            b"go now",
-            b"tick",
-            b"5 go",
-            b"sub 1",
-            b"goto 0",
-            b"g?o",
-            b"caf??",
-            b"x" * 200,
-        ]
+        as_typed = [b"jump", b"go now", b"tick", b"5 go", b"sub 1", b"goto 0"]
+        as_told = {b"g\0o": b"g?o", b"caf\xc3\xa9": b"caf??", b"x" * 500: b"x" * 200}
+        lines = b"\n".join([*as_typed, *as_told])
+        outcome = run(*self.words(), stdin=lines + b"\n  ! nothing\n\nGO ! now\n")
+        told = [*as_typed, *as_told.values()]
         found = [line.split(b": ")[:2] for line in outcome.err.splitlines()]
         self.assertEqual([[b"line refused", line] for line in told], found)
         self.assertEqual(

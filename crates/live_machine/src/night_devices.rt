@@ -140,9 +140,9 @@ pub fn open_behind_record<S: DeviceSystem>(system: &mut S) -> Result<DevicesOf<S
 pub fn open_devices<S: DeviceSystem>(system: &mut S) -> Result<(S::Record, DevicesOf<S>), S::Fault>
     ensures told { S.tells system.new → S.tells system.old }
     ensures ok { OnOk result (S.tells system.new
-        → S.steps system.new ≡ S.steps system.old ++ all_opened in_order) }
+        → S.steps system.new ≡ S.steps system.old ++ all_opened device_order) }
     ensures err { OnErr result (S.tells system.new → (count : ℕ) × (count < 4)
-        × (S.steps system.new ≡ S.steps system.old ++ opened_but count in_order)) }
+        × (S.steps system.new ≡ S.steps system.old ++ opened_but count device_order)) }
 {
     let record = system.open_record()?;
     let devices = open_behind_record(system)?;

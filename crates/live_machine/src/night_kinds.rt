@@ -133,7 +133,7 @@ fn lead_night<S: NightSystem>(
     requires playable { S.is_playable night.old }
     ensures told { S.tells system.new → S.tells system.old }
     ensures ok { OnOk result (S.tells system.new
-        → S.steps system.new ≡ S.steps system.old ++ all_done leads) }
+        → S.steps system.new ≡ S.steps system.old ++ all_done lead_deeds) }
     ensures err { OnErr result (S.tells system.new
         → S.steps system.new ≡ S.steps system.old ++ failure (deed.Begin Leads) ∷ []) }
 {

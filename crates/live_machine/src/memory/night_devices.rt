@@ -11,7 +11,7 @@ pub type MemoryDevices = MemorySteps<Option<NightDevice>, DeviceStep>;
 
 fn ask_for(devices: &mut MemoryDevices, device: NightDevice) -> Result<(), NightDevice>
     ensures answer { result ≡ had_or_missing devices.old.answers device }
-    ensures keeps { OnlyKeeps devices.old devices.new (asked_for device (is_ok result)) }
+    ensures keeps { OnlyKeeps devices.old devices.new (device_step device (is_ok result)) }
 {
     let is_open = devices.answers != Some(device);
     devices.keep(DeviceStep { device, is_open });
@@ -35,28 +35,28 @@ impl DeviceSystem for MemoryDevices {
 
     fn open_record(&mut self) -> Result<(), NightDevice>
         ensures answer { result ≡ had_or_missing self.old.answers device.Record }
-        ensures keeps { OnlyKeeps self.old self.new (asked_for device.Record (is_ok result)) }
+        ensures keeps { OnlyKeeps self.old self.new (device_step device.Record (is_ok result)) }
     {
         ask_for(self, NightDevice::Record)
     }
 
     fn open_screen(&mut self) -> Result<(), NightDevice>
         ensures answer { result ≡ had_or_missing self.old.answers device.Screen }
-        ensures keeps { OnlyKeeps self.old self.new (asked_for device.Screen (is_ok result)) }
+        ensures keeps { OnlyKeeps self.old self.new (device_step device.Screen (is_ok result)) }
     {
         ask_for(self, NightDevice::Screen)
     }
 
     fn take_cid_lock(&mut self) -> Result<(), NightDevice>
         ensures answer { result ≡ had_or_missing self.old.answers device.CidLock }
-        ensures keeps { OnlyKeeps self.old self.new (asked_for device.CidLock (is_ok result)) }
+        ensures keeps { OnlyKeeps self.old self.new (device_step device.CidLock (is_ok result)) }
     {
         ask_for(self, NightDevice::CidLock)
     }
 
     fn open_network(&mut self) -> Result<(), NightDevice>
         ensures answer { result ≡ had_or_missing self.old.answers device.Network }
-        ensures keeps { OnlyKeeps self.old self.new (asked_for device.Network (is_ok result)) }
+        ensures keeps { OnlyKeeps self.old self.new (device_step device.Network (is_ok result)) }
     {
         ask_for(self, NightDevice::Network)
     }
