@@ -81,7 +81,7 @@ IN_THE_PROGRAM = {
     "take_cid_lock": "test_refused_growths.RefusedGrowths.test_live",
     "check_targets": "test_refused_growths.RefusedGrowths.test_targets",
     "name_on": "test_refused_growths.RefusedGrowths.test_live",
-    "node_text": "test_refused_growths.RefusedGrowths.test_record_in_use",
+    "process_in_list": "test_refused_growths.RefusedGrowths.test_record_in_use",
 }
 # Calls that take no memory once something is open: tests of them that ask for as much as one that
 # only opens it.

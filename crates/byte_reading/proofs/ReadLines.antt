@@ -5,7 +5,7 @@ use Rattle.std.proofs.Common.{append_assoc, length-drop}
 use Rattle.std.specs.Prelude.{⊤}
 use Rattle.std.specs.List.{after_first, position_or_len}
 use Rattle.ascii_text.specs.Text.{is_newline}
-use Rattle.byte_reading.specs.ShortLines.{AreRead, GivesLine, GivesNone, short, short_lines}
+use Rattle.byte_reading.specs.ShortLines.{AreRead, GivesLine, GivesNone, short_line, short_lines}
 use Rattle.byte_reading.proofs.ShortText.{first_line}
 
 -- so many lines are read, and the rest of the text is left
@@ -30,7 +30,7 @@ line_read (Some text) (Some []) new lines line n h g = absurd (omega (arith, g.0
 line_read (Some text) (Some (x ∷ xs)) new lines line n h g =
     let rest = after_first is_newline (x ∷ xs) in
     let next : short_lines (x ∷ xs) ≡ line ∷ short_lines rest =
-    ap (map short) (first_line x xs) ∙ ap (λ l. l ∷ short_lines rest) (sym g.1) in
+    ap (map short_line) (first_line x xs) ∙ ap (λ l. l ∷ short_lines rest) (sym g.1) in
     let fewer = length-drop (position_or_len is_newline (x ∷ xs) + 1) (x ∷ xs) in
     subst (λ left. ReadTo (Some text) left (lines ++ line ∷ []) (n + 1)) (sym g.2) (record {
       whole = h.whole ∙ ap (λ l. lines ++ l) next

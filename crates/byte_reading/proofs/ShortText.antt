@@ -9,7 +9,7 @@ use Rattle.std.proofs.lemmas.Bool.Decides.{nat_tests}
 use Rattle.std.proofs.lemmas.Grind.{common_steps}
 use Rattle.ascii_text.specs.Text.{is_newline, lines_of}
 use Rattle.byte_reading.specs.ShortLines.{AllLinesLaw, GivesByte, GivesLine, GivesNone}
-use Rattle.byte_reading.specs.ShortLines.{short, short_lines, shown_byte}
+use Rattle.byte_reading.specs.ShortLines.{short_line, short_lines, shown_byte}
 
 one_more : (n : ℕ) → 1 + n ≡ suc n
 one_more n = omega arith
@@ -57,7 +57,7 @@ cut-all n line h = grind (arith, common_steps)
 
 -- the bytes of a line so far, of which there are n, and what is left of the text
 pub record IsBegun (text rest line : List ℕ) (n : ℕ) : Type 0 where
-  pub front : short (before_first is_newline text)
+  pub front : short_line (before_first is_newline text)
       ≡ take 160 (line ++ map shown_byte (before_first is_newline rest))
   pub behind : after_first is_newline text ≡ after_first is_newline rest
   pub count : length text ≡ n + length rest

@@ -10,12 +10,12 @@ abbrev pub shown_byte : ℕ → ℕ
 shown_byte byte = if nat_le 32 byte && nat_le byte 126 then byte else 32
 
 -- a line as it is given: at most its first 160 bytes, each as it is shown
-abbrev pub short : List ℕ → List ℕ
-short line = take 160 (map shown_byte line)
+abbrev pub short_line : List ℕ → List ℕ
+short_line line = take 160 (map shown_byte line)
 
 -- all lines of a text, each as it is given
 abbrev pub short_lines : List ℕ → List (List ℕ)
-short_lines text = map short (lines_of text)
+short_lines text = map short_line (lines_of text)
 
 -- the next byte of what is left of a text, or none where nothing is left
 abbrev pub GivesByte : Option (List ℕ) → Option (List ℕ) → Option ℕ → Type 0
@@ -27,7 +27,7 @@ GivesByte old new None = Keeps old new × IsAtEnd old
 abbrev pub GivesLine : Option (List ℕ) → Option (List ℕ) → List ℕ → Type 0
 GivesLine None new line = ⊤
 GivesLine (Some text) new line = (0 < length text)
-    × (line ≡ short (before_first is_newline text))
+    × (line ≡ short_line (before_first is_newline text))
     × (new ≡ Some (after_first is_newline text))
 
 -- no line: nothing is left of a text, or a read of it failed. (No machine has a text of 2^64 - 1

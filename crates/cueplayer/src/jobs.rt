@@ -1,7 +1,6 @@
 ghost use Rattle.std.specs.Prelude.{◌≤◌, All};
 ghost use Rattle.cmd_words.specs.Job.{IsJobInRange};
 
-use crate::device_failure::of_socket_fault;
 use crate::line_night::play_lines;
 use crate::live_job::{LiveWords, MainWords, play_live};
 use crate::reading::{file_text, script_text, show_text};
@@ -14,7 +13,7 @@ use show_jobs::{
 };
 use std::io::{BufWriter, Stderr, Stdout};
 use stream_jobs::{ListenPlace, listen_at, rehearse_show, watch_lines};
-use system_devices::{ReceivingSocket, SystemInput, SystemOutput};
+use system_devices::{ReceivingSocket, SocketFault, SystemInput, SystemOutput};
 
 // Bytes that a rehearsal gathers before it writes them.
 const PRINTED: usize = 65_536;
@@ -61,6 +60,11 @@ pub fn run(rt: &HostRuntime, job: Job) -> Result<(), JobFault>
         } => Ok(listen(rt, at, universe, count)?),
         Job::Watch { universes } => Ok(watch(rt, universes.as_slice())?),
     }
+}
+
+/// A socket is not had.
+pub fn of_socket_fault(fault: SocketFault) -> Failure {
+    Failure::of_device(fault.address.as_str(), fault.kind)
 }
 
 /// Standard output.

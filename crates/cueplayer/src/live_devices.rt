@@ -1,7 +1,6 @@
 ghost use Rattle.std.specs.Prelude.{[]};
 
 use crate::cards::open_network;
-use crate::device_failure::{of_device_fault, of_record};
 use crate::line_night::link_of;
 use crate::live_booth::LiveBooth;
 use crate::live_job::{LiveWords, Playbill};
@@ -15,7 +14,7 @@ use live_machine::{
 };
 use night_lines::{Place, Recording};
 use night_record::NightOpening;
-use remarks::{Failure, JobFault, no_lock, of_lock, run_end};
+use remarks::{Failure, JobFault, no_lock, of_lock, of_missing, of_record, run_end};
 use std::cell::RefCell;
 use std::time::Instant;
 use system_devices::{CardSender, CidLock, Network, Pause, Record, RecordFile, TypedInput};
@@ -252,7 +251,7 @@ impl DeviceSystem for SystemDevices<'_, '_, '_> {
     }
 
     fn open_screen(&mut self) -> Result<Replies, JobFault> {
-        Ok(open_replies(self.rt).map_err(of_device_fault)?)
+        Ok(open_replies(self.rt).map_err(of_missing)?)
     }
 
     fn take_cid_lock(&mut self) -> Result<Option<CidLock>, JobFault> {

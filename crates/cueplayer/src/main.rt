@@ -2,7 +2,6 @@
 #![tactic(auto)]
 
 mod cards;
-mod device_failure;
 mod jobs;
 mod line_night;
 mod link_watch;

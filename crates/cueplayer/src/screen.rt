@@ -1,6 +1,6 @@
 ghost use Rattle.std.specs.Prelude.{[]};
 
-use line_queue::{Notice, QueuedOutputs, WrittenFiles};
+use line_queue::{Notice, QueuedOutputs};
 use night_lines::LineTeller;
 use std::io::{Stderr, Stdout};
 use system_devices::{BoundedOutput, DeviceFault, Messages, Names, PolledWay, open_output};
@@ -36,11 +36,7 @@ pub struct Screen {
 impl Screen {
     /// The screen of a night that begins.
     pub fn new(rt: &HostRuntime, replies: Replies, messages: Messages) -> Self {
-        let before = WrittenFiles {
-            output: replies.written_file(rt),
-            error: messages.written_file(rt),
-        };
-        let outputs = QueuedOutputs::new(replies, messages, before);
+        let outputs = QueuedOutputs::open(replies, messages, rt);
         Screen {
             screen: line_queue::Screen::new(outputs),
         }

@@ -1,5 +1,4 @@
-use crate::device_failure::of_device_fault;
-use remarks::Failure;
+use remarks::{Failure, of_missing};
 use std::os::fd::AsFd;
 use system_devices::{Messages, TypedInput, open_messages};
 
@@ -18,8 +17,8 @@ impl<'a> Standard<'a> {
     pub fn open(rt: &'a HostRuntime) -> Result<Self, Failure> {
         ask_for(&rt.stdout(), "standard output")?;
         let is_told = ask_for(&rt.stderr(), "standard error").is_ok();
-        let input = TypedInput::open(rt).map_err(of_device_fault)?;
-        let messages = open_messages(rt, is_told).map_err(of_device_fault)?;
+        let input = TypedInput::open(rt).map_err(of_missing)?;
+        let messages = open_messages(rt, is_told).map_err(of_missing)?;
         Ok(Standard { input, messages })
     }
 }

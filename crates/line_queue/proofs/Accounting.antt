@@ -1,7 +1,7 @@
 -- What each step of a queue does to its account.
 use Rattle.std.proofs.Common.{◌≡◌, ◌≢◌, ◌≤◌, ◌<◌, ◌+◌, ◌∙◌, ℕ, add-zero, min, List, [], ◌∷◌, ◌++◌}
 use Rattle.std.proofs.Common.{Option, Some, None, IsSome, false, is_some, append_assoc, append-nil}
-use Rattle.std.proofs.Common.{ap, arith, drop, length, refl, sym, take}
+use Rattle.std.proofs.Common.{ap, arith, drop, length, refl, sym, take, vec_capacity, vec_len}
 use Rattle.std.proofs.lemmas.List.{flat_map_more, length-append, length-take-le, length-take}
 use Rattle.std.proofs.lemmas.List.{nil_from_length, take-append-drop, take-take}
 use Rattle.std.proofs.lemmas.List.Sums.{sum_by-append}
@@ -52,6 +52,21 @@ pub record IsSame {P : Type 0} (old new : LineQueue P) : Type 0 where
   pub dropped : new.dropped ≡ old.dropped
   pub gaps : new.gaps ≡ old.gaps
   pub failure : new.failure ≡ old.failure
+
+-- where only its pipe did something, a queue is the same
+pub same_but_pipe : {P : Type 0} (queue : LineQueue P) (pipe : P)
+    {room : 65536 ≤ vec_capacity queue.waiting} {bounded : vec_len queue.waiting ≤ 65536}
+    {over : IsSome queue.failure → vec_len queue.waiting ≡ 0}
+    → IsSame queue
+    (record queue { pipe = pipe; room = room; bounded = bounded; over = over })
+same_but_pipe queue pipe = record {
+  notice = refl;
+  waiting = refl;
+  taken = refl;
+  dropped = refl;
+  gaps = refl;
+  failure = refl;
+}
 
 -- they stand for the same lines, by tapes with the same bytes and the same lasting failure
 pub same_stands : {P : Type 0} (old new : LineQueue P) (before after : PipeTape)

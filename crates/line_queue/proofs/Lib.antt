@@ -1,4 +1,5 @@
 pub mod Accounting
+mod Handed
 mod Owing
 pub mod Recorded
 mod Screening

@@ -3,11 +3,11 @@ use Rattle.std.proofs.Common.{◌≡◌, ◌∙◌, ℕ, Bool, true, false, not,
 use Rattle.std.proofs.Common.{ap, append-nil, append_assoc, refl, sym, subst}
 use Rattle.std.proofs.lemmas.List.Elements.{All-head, All-tail}
 use Rattle.std.specs.Prelude.{All, map}
-use Rattle.line_queue.proofs.Watching.{look_of as look_by, watch_of}
+use Rattle.line_queue.proofs.Watching.{output_look, watch_of}
 use Rattle.line_queue.specs.OutputDeeds.{OutputDeed}
-use Rattle.line_queue.specs.OutputDeeds.OutputDeed.{FinishLines, Message}
-use Rattle.line_queue.specs.RecordLaws.{EndsAtFailure, RecordCall, RecordLaw, deeds_of, line_of}
-use Rattle.line_queue.specs.RecordLaws.{lines_in, look_of, looks_in, messages_in}
+use Rattle.line_queue.specs.OutputDeeds.OutputDeed.{AskIfLate, FinishLines, Line, Message}
+use Rattle.line_queue.specs.RecordLaws.{EndsAtFailure, RecordCall, RecordLaw, deeds_of, call_line}
+use Rattle.line_queue.specs.RecordLaws.{call_look, record_lines_in, looks_in, messages_in}
 use Rattle.line_queue.specs.RecordLaws as call
 use Rattle.line_queue.specs.Recording.{end_of_record, look_deeds, record_owed_told}
 use Rattle.line_queue.specs.Waits.{wait_deeds}
@@ -29,11 +29,39 @@ behind late gaps look calls =
     look_deeds (watch_of false late gaps) look
     ++ deeds_of (told_after (watch_of false late gaps) look) calls
 
+-- what no line changes, and what holds behind each look, holds of all calls
+module _ (Holds : OutputWatch → List OutputDeed → Type 0)
+    (none : (late : Bool) (gaps : ℕ) → Holds (watch_of false late gaps) [])
+    (put : (told : OutputWatch) (line : List ℕ) (deeds : List OutputDeed)
+    → Holds told deeds → Holds told (Line line ∷ deeds))
+    (ask : (told : OutputWatch) (is_late : Bool) (deeds : List OutputDeed)
+    → Holds told deeds → Holds told (AskIfLate is_late ∷ deeds))
+    (finish : (told : OutputWatch) (deeds : List OutputDeed)
+    → Holds told deeds → Holds told (FinishLines ∷ deeds))
+    (look : (failed now late : Bool) (found gaps : ℕ) (calls : List RecordCall)
+    → ((l : Bool) (g : ℕ) → Holds (watch_of false l g) (deeds_of (watch_of false l g) calls))
+    → Holds (watch_of false late gaps) (behind late gaps (output_look failed now found) calls))
+    where
+  behind_each : (calls : List RecordCall) (late : Bool) (gaps : ℕ)
+      → Holds (watch_of false late gaps) (deeds_of (watch_of false late gaps) calls)
+  behind_each [] late gaps = none late gaps
+  behind_each (call.keep line seen ∷ calls) late gaps =
+      put (watch_of false late gaps) line _
+      (look seen.has_failed seen.is_late late seen.gaps gaps calls (behind_each calls))
+  behind_each (call.copy line true seen ∷ calls) late gaps =
+      let told = watch_of false late gaps in
+      put told line _ (ask told true _ (finish told _
+      (look seen.has_failed seen.is_late late seen.gaps gaps calls (behind_each calls))))
+  behind_each (call.copy line false seen ∷ calls) late gaps =
+      let told = watch_of false late gaps in
+      put told line _ (ask told false _
+      (look seen.has_failed seen.is_late late seen.gaps gaps calls (behind_each calls)))
+
 -- ---- the first failure is told, and ends all
 
 ends_behind : (failed now late : Bool) (found gaps : ℕ) (calls : List RecordCall)
     → ((l : Bool) (g : ℕ) → EndsAtFailure false (deeds_of (watch_of false l g) calls))
-    → EndsAtFailure false (behind late gaps (look_by failed now found) calls)
+    → EndsAtFailure false (behind late gaps (output_look failed now found) calls)
 ends_behind true now late found gaps calls rest =
     ap (λ deeds. Message (record_notice Failed) ∷ deeds) (silent calls late gaps)
 ends_behind false false false found gaps calls rest = rest false gaps
@@ -43,13 +71,8 @@ ends_behind false false true found gaps calls rest = rest false found
 
 ends_at : (calls : List RecordCall) (late : Bool) (gaps : ℕ)
     → EndsAtFailure false (deeds_of (watch_of false late gaps) calls)
-ends_at [] late gaps = tt
-ends_at (call.keep line look ∷ calls) late gaps =
-    ends_behind look.has_failed look.is_late late look.gaps gaps calls (ends_at calls)
-ends_at (call.copy line true look ∷ calls) late gaps =
-    ends_behind look.has_failed look.is_late late look.gaps gaps calls (ends_at calls)
-ends_at (call.copy line false look ∷ calls) late gaps =
-    ends_behind look.has_failed look.is_late late look.gaps gaps calls (ends_at calls)
+ends_at = behind_each (λ told deeds. EndsAtFailure false deeds) (λ late gaps. tt)
+    (λ told line deeds h. h) (λ told is_late deeds h. h) (λ told deeds h. h) ends_behind
 
 ends : (failed late : Bool) (gaps : ℕ) (calls : List RecordCall)
     → EndsAtFailure false (deeds_of (watch_of failed late gaps) calls)
@@ -63,7 +86,7 @@ AreNotices told deeds = messages_in deeds ≡ map record_notice (notices_of told
 
 notices_behind : (failed now late : Bool) (found gaps : ℕ) (calls : List RecordCall)
     → ((l : Bool) (g : ℕ) → AreNotices (watch_of false l g) (deeds_of (watch_of false l g) calls))
-    → AreNotices (watch_of false late gaps) (behind late gaps (look_by failed now found) calls)
+    → AreNotices (watch_of false late gaps) (behind late gaps (output_look failed now found) calls)
 notices_behind true now late found gaps calls rest =
     ap (λ lines. record_notice Failed ∷ lines)
     (subst (AreNotices (watch_of true late gaps)) (sym (silent calls late gaps)) refl)
@@ -76,13 +99,8 @@ notices_behind false false true found gaps calls rest =
 
 notices_at : (calls : List RecordCall) (late : Bool) (gaps : ℕ)
     → AreNotices (watch_of false late gaps) (deeds_of (watch_of false late gaps) calls)
-notices_at [] late gaps = refl
-notices_at (call.keep line look ∷ calls) late gaps =
-    notices_behind look.has_failed look.is_late late look.gaps gaps calls (notices_at calls)
-notices_at (call.copy line true look ∷ calls) late gaps =
-    notices_behind look.has_failed look.is_late late look.gaps gaps calls (notices_at calls)
-notices_at (call.copy line false look ∷ calls) late gaps =
-    notices_behind look.has_failed look.is_late late look.gaps gaps calls (notices_at calls)
+notices_at = behind_each AreNotices (λ late gaps. refl) (λ told line deeds h. h)
+    (λ told is_late deeds h. h) (λ told deeds h. h) notices_behind
 
 notices : (failed late : Bool) (gaps : ℕ) (calls : List RecordCall)
     → AreNotices (watch_of failed late gaps) (deeds_of (watch_of failed late gaps) calls)
@@ -93,14 +111,14 @@ notices false late gaps calls = notices_at calls late gaps
 -- ---- each line is put into a record that does not fail
 
 abbrev IsWell : RecordCall → Type 0
-IsWell call = (look_of call).has_failed ≡ false
+IsWell call = (call_look call).has_failed ≡ false
 
 abbrev AreLines : List RecordCall → List OutputDeed → Type 0
-AreLines calls deeds = lines_in deeds ≡ map line_of calls
+AreLines calls deeds = record_lines_in deeds ≡ map call_line calls
 
 lines_behind : (now late : Bool) (found gaps : ℕ) (calls : List RecordCall)
     → ((l : Bool) (g : ℕ) → AreLines calls (deeds_of (watch_of false l g) calls))
-    → AreLines calls (behind late gaps (look_by false now found) calls)
+    → AreLines calls (behind late gaps (output_look false now found) calls)
 lines_behind false false found gaps calls rest = rest false gaps
 lines_behind true false found gaps calls rest = rest true gaps
 lines_behind true true found gaps calls rest = rest true gaps
@@ -111,7 +129,7 @@ lines_well : (look : OutputLook) (late : Bool) (gaps : ℕ) (calls : List Record
     → ((l : Bool) (g : ℕ) → AreLines calls (deeds_of (watch_of false l g) calls))
     → AreLines calls (behind late gaps look calls)
 lines_well look late gaps calls well rest =
-    subst (λ f. AreLines calls (behind late gaps (look_by f look.is_late look.gaps) calls))
+    subst (λ f. AreLines calls (behind late gaps (output_look f look.is_late look.gaps) calls))
     (sym well) (lines_behind look.is_late late look.gaps gaps calls rest)
 
 lines_at : (calls : List RecordCall) → All IsWell calls → (late : Bool) (gaps : ℕ)

@@ -13,8 +13,8 @@ use Rattle.line_queue.specs.Watches.{news_of_output, notices_of}
 abbrev pub watch_of : Bool → Bool → ℕ → OutputWatch
 watch_of failed late gaps = record { has_failed = failed; is_late = late; gaps = gaps }
 
-abbrev pub look_of : Bool → Bool → ℕ → OutputLook
-look_of failed late gaps = record { has_failed = failed; is_late = late; gaps = gaps }
+abbrev pub output_look : Bool → Bool → ℕ → OutputLook
+output_look failed late gaps = record { has_failed = failed; is_late = late; gaps = gaps }
 
 -- the notices after a look, behind its own
 abbrev told_on : OutputWatch → OutputLook → List OutputLook → List OutputNotice
@@ -28,7 +28,7 @@ silent late gaps (look ∷ looks) = silent late gaps looks
 
 step : (late failed now : Bool) (gaps found : ℕ) (looks : List OutputLook)
     → ((l : Bool) (g : ℕ) → AreInTurn l (notices_of (watch_of false l g) looks))
-    → AreInTurn late (told_on (watch_of false late gaps) (look_of failed now found) looks)
+    → AreInTurn late (told_on (watch_of false late gaps) (output_look failed now found) looks)
 step late true now gaps found looks rest = silent late gaps looks
 step false false false gaps found looks rest = rest false gaps
 step false false true gaps found looks rest = rest true gaps
@@ -71,7 +71,7 @@ is_same n = grind (arith)
 whole_step : (failed late broken now : Bool) (gaps found : ℕ) (looks : List OutputLook)
     → found ≡ gaps
     → ((f l : Bool) → NoneMissing (notices_of (watch_of f l gaps) looks))
-    → NoneMissing (told_on (watch_of failed late gaps) (look_of broken now found) looks)
+    → NoneMissing (told_on (watch_of failed late gaps) (output_look broken now found) looks)
 whole_step true late broken now gaps found looks same rest = rest true late
 whole_step false late true now gaps found looks same rest =
     one Failed (notices_of (watch_of true late gaps) looks) refl (rest true late)
@@ -80,7 +80,7 @@ whole_step false false false true gaps found looks same rest =
     one Late (notices_of (watch_of false true gaps) looks) refl (rest false true)
 whole_step false true false true gaps found looks same rest = rest false true
 whole_step false true false false gaps found looks same rest =
-    subst (λ g. NoneMissing (told_on (watch_of false true gaps) (look_of false false g) looks))
+    subst (λ g. NoneMissing (told_on (watch_of false true gaps) (output_look false false g) looks))
     (sym same)
     (subst (λ b. NoneMissing (cond b Whole Missing ∷ notices_of (watch_of false false gaps) looks))
     (sym (is_same gaps))

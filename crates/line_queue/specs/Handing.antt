@@ -1,7 +1,7 @@
--- How much a queue asks of its pipe.
-use Rattle.std.specs.Prelude.{◌≡◌, ◌+◌, ◌-◌, ◌*◌, ◌≤◌, ◌⊎◌, ℕ, [], true}
+-- How a queue hands on what waits, and how much it asks of its pipe for that.
+use Rattle.std.specs.Prelude.{◌≡◌, ◌+◌, ◌-◌, ◌*◌, ◌≤◌, ◌⊎◌, ℕ, List, [], ◌∷◌, true}
 use Rattle.line_queue.specs.Pipes.{PipeTape}
-use Rattle.line_queue.specs.Stands.{waiting_in}
+use Rattle.line_queue.specs.Stands.{TakesMore, dropped_in, notice_in, waiting_in}
 use Rattle.line_queue.specs.declared.queue.LineQueue.{LineQueue}
 
 -- at most so many writes, and a wait of so many milliseconds at most before each and once more
@@ -20,3 +20,26 @@ IsDone parts queue old new =
 abbrev pub IsHandedOn : {P : Type 0} → ℕ → LineQueue P → PipeTape → PipeTape → Type 0
 IsHandedOn parts queue old new =
     (waiting_in queue ≡ []) ⊎ ((new.is_full ≡ true) ⊎ (old.writes + parts ≤ new.writes))
+
+-- a queue stands for these lines too now, and asked its pipe at most so much
+pub record Takes {P : Type 0} (tells : P → Type 0) (tape : P → PipeTape)
+    (lines : List (List ℕ)) (parts milliseconds : ℕ) (old new : LineQueue P) : Type 0 where
+  pub told : tells new.pipe → tells old.pipe
+  pub notice : notice_in new ≡ notice_in old
+  pub stands : tells new.pipe → TakesMore lines old (tape old.pipe) new (tape new.pipe)
+  pub asks : tells new.pipe → AsksAtMost parts milliseconds (tape old.pipe) (tape new.pipe)
+
+-- it handed on what waits, as far as that could be: no line was dropped, and where nothing waits
+-- nothing is done
+pub record HandsOn {P : Type 0} (tells : P → Type 0) (tape : P → PipeTape)
+    (parts milliseconds : ℕ) (old new : LineQueue P) : Type 0 where
+  pub takes : Takes tells tape [] parts milliseconds old new
+  pub done : tells new.pipe → IsDone parts new (tape old.pipe) (tape new.pipe)
+  pub no_drop : dropped_in new ≤ dropped_in old
+  pub empty : waiting_in old ≡ [] → new ≡ old
+
+-- it took a line, and handed on what waits
+pub record Puts {P : Type 0} (tells : P → Type 0) (tape : P → PipeTape) (line : List ℕ)
+    (old new : LineQueue P) : Type 0 where
+  pub takes : Takes tells tape (line ∷ []) 32 0 old new
+  pub handed : tells new.pipe → IsHandedOn 16 new (tape old.pipe) (tape new.pipe)

@@ -14,3 +14,5 @@ pub mod Screens
 pub mod Recording
 pub mod RecordLaws
 pub mod KeptDeeds
+pub mod Readiness
+pub mod WriteHistories

@@ -1,10 +1,7 @@
 -- What becomes of an output for lines that may be closed.
-use Rattle.std.specs.Prelude.{◌≡◌, ℕ, Bool, false, List, [], ◌∷◌}
-use Rattle.std.specs.Prelude.{Option, Some, None}
-use Rattle.line_queue.specs.Handing.{AsksAtMost, IsDone, IsHandedOn}
+use Rattle.std.specs.Prelude.{◌≡◌, ℕ, Bool, false, Option, Some, None}
 use Rattle.line_queue.specs.Owed.{piped_bytes}
-use Rattle.line_queue.specs.Pipes.{PipeTape}
-use Rattle.line_queue.specs.Stands.{TakesMore, bytes_taken, failure_in, is_late, notice_in}
+use Rattle.line_queue.specs.Stands.{bytes_taken, failure_in, is_late}
 use Rattle.line_queue.specs.Watches.{look_at}
 use Rattle.line_queue.specs.declared.owed.GivenBytes.{GivenBytes}
 use Rattle.line_queue.specs.declared.owed.WrittenFile.{WrittenFile}
@@ -19,26 +16,6 @@ abbrev pub Changes : {P : Type 0} → (LineQueue P → LineQueue P → Type 0)
 Changes Does None new = new ≡ None
 Changes {P} Does (Some old) new = (queue : LineQueue P) × (new ≡ Some queue) × Does old queue
 
--- a queue stands for these lines too now, and asked its pipe at most so much
-pub record Takes {P : Type 0} (tells : P → Type 0) (tape : P → PipeTape)
-    (lines : List (List ℕ)) (parts milliseconds : ℕ) (old new : LineQueue P) : Type 0 where
-  pub told : tells new.pipe → tells old.pipe
-  pub notice : notice_in new ≡ notice_in old
-  pub stands : tells new.pipe → TakesMore lines old (tape old.pipe) new (tape new.pipe)
-  pub asks : tells new.pipe → AsksAtMost parts milliseconds (tape old.pipe) (tape new.pipe)
-
--- it handed on what waits, as far as that could be
-pub record HandsOn {P : Type 0} (tells : P → Type 0) (tape : P → PipeTape)
-    (parts milliseconds : ℕ) (old new : LineQueue P) : Type 0 where
-  pub takes : Takes tells tape [] parts milliseconds old new
-  pub done : tells new.pipe → IsDone parts new (tape old.pipe) (tape new.pipe)
-
--- it took a line, and handed on what waits
-pub record Puts {P : Type 0} (tells : P → Type 0) (tape : P → PipeTape) (line : List ℕ)
-    (old new : LineQueue P) : Type 0 where
-  pub takes : Takes tells tape (line ∷ []) 32 0 old new
-  pub handed : tells new.pipe → IsHandedOn 16 new (tape old.pipe) (tape new.pipe)
-
 -- how the output is: one that is closed has no failure, and is never late
 abbrev pub look_in : {P : Type 0} → Option (LineQueue P) → OutputLook
 look_in None = record { has_failed = false; is_late = false; gaps = 0 }
@@ -49,10 +26,10 @@ is_output_late None = false
 is_output_late (Some queue) = is_late queue
 
 -- a look at its file may answer this: a closed one has no file
-abbrev pub Shows : {P : Type 0} → (P → Option WrittenFile → Type 0) → Option (LineQueue P)
+abbrev pub ShowsFile : {P : Type 0} → (P → Option WrittenFile → Type 0) → Option (LineQueue P)
     → Option WrittenFile → Type 0
-Shows shows None file = file ≡ None
-Shows shows (Some queue) file = shows queue.pipe file
+ShowsFile shows None file = file ≡ None
+ShowsFile shows (Some queue) file = shows queue.pipe file
 
 -- how many bytes a writer of its file was given
 abbrev pub piped_in : {P : Type 0} → Option (LineQueue P) → ℕ

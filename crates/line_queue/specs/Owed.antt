@@ -7,9 +7,9 @@ use Rattle.line_queue.specs.declared.owed.WrittenFile.{WrittenFile}
 use Rattle.line_queue.specs.declared.owed.WrittenFiles.{WrittenFiles}
 use Rattle.line_queue.specs.declared.owed.GivenBytes.{GivenBytes}
 
-abbrev pub length_of : Option WrittenFile → ℕ
-length_of None = 0
-length_of (Some file) = file.length
+abbrev pub file_length : Option WrittenFile → ℕ
+file_length None = 0
+file_length (Some file) = file.length
 
 -- such a process was given what its pipe took; where the pipe failed nothing counts any more
 abbrev pub piped_bytes : Option ErrorKind → ℕ → ℕ
@@ -32,9 +32,9 @@ are_one_file _ _ = false
 abbrev pub owed_by_outputs : WrittenFiles → GivenBytes → WrittenFiles → ℕ
 owed_by_outputs before given now =
     if are_one_file now.output now.error
-    then owed_bytes (length_of before.output) (given.output + given.error) now.output
-    else owed_bytes (length_of before.output) given.output now.output
-    + owed_bytes (length_of before.error) given.error now.error
+    then owed_bytes (file_length before.output) (given.output + given.error) now.output
+    else owed_bytes (file_length before.output) given.output now.output
+    + owed_bytes (file_length before.error) given.error now.error
 
 -- what is told of bytes that the writer of a record still owes at the end of a night
 abbrev pub record_owed_line : ℕ → List ℕ

@@ -14,13 +14,13 @@ pub data RecordCall : Type 0 where
   keep : List ℕ → OutputLook → RecordCall
   copy : List ℕ → Bool → OutputLook → RecordCall
 
-abbrev pub line_of : RecordCall → List ℕ
-line_of (keep line look) = line
-line_of (copy line is_late look) = line
+abbrev pub call_line : RecordCall → List ℕ
+call_line (keep line look) = line
+call_line (copy line is_late look) = line
 
-abbrev pub look_of : RecordCall → OutputLook
-look_of (keep line look) = look
-look_of (copy line is_late look) = look
+abbrev pub call_look : RecordCall → OutputLook
+call_look (keep line look) = look
+call_look (copy line is_late look) = look
 
 -- the deeds of a call: none once a failure was told
 abbrev pub call_deeds : OutputWatch → RecordCall → List OutputDeed
@@ -32,13 +32,13 @@ call_deeds told (copy line is_late look) =
 abbrev pub deeds_of : OutputWatch → List RecordCall → List OutputDeed
 deeds_of told [] = []
 deeds_of told (call ∷ calls) =
-    call_deeds told call ++ deeds_of (told_after told (look_of call)) calls
+    call_deeds told call ++ deeds_of (told_after told (call_look call)) calls
 
 -- the lines that were put into the record
-abbrev pub lines_in : List OutputDeed → List (List ℕ)
-lines_in [] = []
-lines_in (Line line ∷ deeds) = line ∷ lines_in deeds
-lines_in (_ ∷ deeds) = lines_in deeds
+abbrev pub record_lines_in : List OutputDeed → List (List ℕ)
+record_lines_in [] = []
+record_lines_in (Line line ∷ deeds) = line ∷ record_lines_in deeds
+record_lines_in (_ ∷ deeds) = record_lines_in deeds
 
 -- how the record was, each time that was looked at
 abbrev pub looks_in : List OutputDeed → List OutputLook
@@ -64,8 +64,8 @@ EndsAtFailure false (_ ∷ deeds) = EndsAtFailure false deeds
 -- what is told are the notices of the looks
 pub record RecordLaw : Type 0 where
   pub lines : (told : OutputWatch) (calls : List RecordCall) → told.has_failed ≡ false
-      → All (λ call. (look_of call).has_failed ≡ false) calls
-      → lines_in (deeds_of told calls) ≡ map line_of calls
+      → All (λ call. (call_look call).has_failed ≡ false) calls
+      → record_lines_in (deeds_of told calls) ≡ map call_line calls
   pub failure : (told : OutputWatch) (calls : List RecordCall)
       → EndsAtFailure false (deeds_of told calls)
   pub messages : (told : OutputWatch) (calls : List RecordCall)

@@ -1,5 +1,6 @@
+mod outputs;
+mod poll;
 mod record;
-mod screen;
 mod way;
 mod writers;
 
@@ -12,7 +13,8 @@ ghost use Rattle.line_queue.specs.Pipes.{after_question, after_write};
 
 use crate::Pipe;
 use devices::memory::Faults;
-pub use screen::{MemoryDeed, MemoryOutputs, ScreenLine};
+pub use outputs::{MemoryDeed, MemoryOutputs, OutputAnswers, ScreenLine};
+pub use poll::{MemoryPoll, PollAnswers};
 use std::alloc::Global;
 use std::io::ErrorKind;
 pub use way::{MemoryWay, WayAnswers};

@@ -1,6 +1,7 @@
 ghost use Rattle.std.specs.Prelude.{◌≡◌, ◌∷◌, [], Option, None, Some};
 ghost use Rattle.line_queue.specs.Entries.{capped_count};
-ghost use Rattle.line_queue.specs.LineOutputs.{Changes, HandsOn, Puts, Shows, Takes};
+ghost use Rattle.line_queue.specs.Handing.{HandsOn, Puts, Takes};
+ghost use Rattle.line_queue.specs.LineOutputs.{Changes, ShowsFile};
 ghost use Rattle.line_queue.specs.LineOutputs.{is_output_late, look_in, piped_in};
 ghost use Rattle.line_queue.specs.Owed.{owed_bytes};
 ghost use Rattle.line_queue.specs.declared.owed.WrittenFile.{WrittenFile as FileOf};
@@ -24,8 +25,8 @@ impl<P: Drop> LineOutput<P> {
         LineOutput { queue: Some(queue) }
     }
 
-    /// A closed one.
-    pub fn closed() -> Self
+    /// A closed one: its lines go nowhere.
+    pub fn nowhere() -> Self
         ensures { result.queue ≡ None }
     {
         LineOutput { queue: None }
@@ -74,7 +75,7 @@ impl<P: Pipe> LineOutput<P> {
 impl<P: FilePipe> LineOutput<P> {
     /// Its file, if it is open and another process writes that.
     pub fn written_file(&self, system: &P::System) -> Option<WrittenFile>
-        ensures { Shows P.shows self.now.queue result }
+        ensures { ShowsFile P.shows self.now.queue result }
     {
         let Some(queue) = &self.queue else {
             return None;
@@ -84,7 +85,7 @@ impl<P: FilePipe> LineOutput<P> {
 
     /// How many bytes its writer owes, up to 2^64 - 1, of a file that had so many before.
     pub fn owed_bytes(&self, before: u64, system: &P::System) -> u64
-        ensures { (now : Option FileOf) × Shows P.shows self.now.queue now
+        ensures { (now : Option FileOf) × ShowsFile P.shows self.now.queue now
             × (result ≡ capped_count (owed_bytes before (piped_in self.now.queue) now)) }
     {
         owed_bytes(before, self.piped_bytes(), self.written_file(system))

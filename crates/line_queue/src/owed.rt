@@ -1,6 +1,6 @@
 ghost use Rattle.std.specs.Prelude.{◌≡◌, ◌≤◌};
 ghost use Rattle.line_queue.specs.Entries.{capped_count};
-ghost use Rattle.line_queue.specs.Owed.{are_one_file, length_of, outputs_owed_line, owed_bytes};
+ghost use Rattle.line_queue.specs.Owed.{are_one_file, file_length, outputs_owed_line, owed_bytes};
 ghost use Rattle.line_queue.specs.Owed.{owed_by_outputs, record_owed_line};
 
 use arrayvec::ArrayString;
@@ -39,7 +39,7 @@ pub type OwedLine = ArrayString<72>;
 pub fn owed_bytes(before: u64, given: u64, now: Option<WrittenFile>) -> u64
     ensures { result ≡ capped_count (owed_bytes before given now) }
 {
-    capped(owed(before, given.into(), now))
+    capped_count(file_owes(before, given.into(), now))
 }
 
 /// How many bytes the writers of a night's outputs owe, up to 2^64 - 1, by their files before and
@@ -47,16 +47,16 @@ pub fn owed_bytes(before: u64, given: u64, now: Option<WrittenFile>) -> u64
 pub fn owed_by_outputs(before: WrittenFiles, given: GivenBytes, now: WrittenFiles) -> u64
     ensures { result ≡ capped_count (owed_by_outputs before given now) }
 {
-    let output = length_of(before.output);
+    let output = file_length(before.output);
     let (shown, told) = (u128::from(given.output), u128::from(given.error));
     if are_one_file(now.output, now.error) {
-        return capped(owed(output, shown + told, now.output));
+        return capped_count(file_owes(output, shown + told, now.output));
     }
-    let shown = owed(output, shown, now.output);
-    capped(shown + owed(length_of(before.error), told, now.error))
+    let shown = file_owes(output, shown, now.output);
+    capped_count(shown + file_owes(file_length(before.error), told, now.error))
 }
 
-fn owed(before: u64, given: u128, now: Option<WrittenFile>) -> u128
+fn file_owes(before: u64, given: u128, now: Option<WrittenFile>) -> u128
     requires { given ≤ 36893488147419103230 }
     ensures bytes { result ≡ owed_bytes before given now }
     ensures few { result ≤ 55340232221128654845 }
@@ -67,14 +67,14 @@ fn owed(before: u64, given: u128, now: Option<WrittenFile>) -> u128
     }
 }
 
-fn capped(bytes: u128) -> u64
+fn capped_count(bytes: u128) -> u64
     ensures { result ≡ capped_count bytes }
 {
     u64::try_from(bytes).unwrap_or(u64::MAX)
 }
 
-fn length_of(file: Option<WrittenFile>) -> u64
-    ensures { result ≡ length_of file }
+fn file_length(file: Option<WrittenFile>) -> u64
+    ensures { result ≡ file_length file }
 {
     match file {
         Some(file) => file.length,

@@ -70,20 +70,13 @@ impl<P: Pipe + Drop> LineQueue<P> {
 impl<P: Pipe> LineQueue<P> {
     ghost use Rattle.std.specs.Prelude.{◌<◌, ◌+◌, ◌++◌, ◌∷◌, ◌&&◌, [], length, nat_eq, nat_le};
     ghost use Rattle.std.specs.Prelude.{IsNone, None};
-    ghost use Rattle.line_queue.specs.Handing.{AsksAtMost, IsDone, IsHandedOn};
+    ghost use Rattle.line_queue.specs.Handing.{HandsOn, Puts, Takes};
     ghost use Rattle.line_queue.specs.Stands.{HasRoom, TakesMore, dropped_in, failure_in};
     ghost use Rattle.line_queue.specs.Stands.{notice_in, waiting_in};
 
     /// Takes a line and hands it on, or drops it.
     pub fn put(&mut self, line: &[u8])
-        ensures told { P.tells self.new.pipe → P.tells self.old.pipe }
-        ensures notice { notice_in self.new ≡ notice_in self.old }
-        ensures stands { P.tells self.new.pipe → TakesMore (line.now ∷ []) self.old
-            (P.tape self.old.pipe) self.new (P.tape self.new.pipe) }
-        ensures asks { P.tells self.new.pipe
-            → AsksAtMost 32 0 (P.tape self.old.pipe) (P.tape self.new.pipe) }
-        ensures handed { P.tells self.new.pipe
-            → IsHandedOn 16 self.new (P.tape self.old.pipe) (P.tape self.new.pipe) }
+        ensures puts { Puts P.tells P.tape line.now self.old self.new }
         ensures over { IsSome (failure_in self.old) → self.new ≡ self.old }
     {
         self.take(line);
@@ -93,17 +86,12 @@ impl<P: Pipe> LineQueue<P> {
     /// Takes a line for the next time that lines are handed on, or drops it. So many lines cost no
     /// more calls of the system than their bytes do.
     pub fn take(&mut self, line: &[u8])
-        ensures told { P.tells self.new.pipe → P.tells self.old.pipe }
-        ensures notice { notice_in self.new ≡ notice_in self.old }
-        ensures stands { P.tells self.new.pipe → TakesMore (line.now ∷ []) self.old
-            (P.tape self.old.pipe) self.new (P.tape self.new.pipe) }
+        ensures takes { Takes P.tells P.tape (line.now ∷ []) 16 0 self.old self.new }
         ensures kept { HasRoom self.old line.now → (self.new.pipe ≡ self.old.pipe)
             × (waiting_in self.new ≡ waiting_in self.old ++ line.now) × HasRoom self.new [] }
         // Where it is the first that is dropped, it does not fit behind what waits.
         ensures dropped { IsNone (failure_in self.new) → dropped_in self.new ≡ 1
             → 65536 < length (waiting_in self.new) + length line.now }
-        ensures asks { P.tells self.new.pipe
-            → AsksAtMost 16 0 (P.tape self.old.pipe) (P.tape self.new.pipe) }
         ensures over { IsSome (failure_in self.old) → self.new ≡ self.old }
     {
         self.make_room(line);
@@ -119,12 +107,7 @@ impl<P: Pipe> LineQueue<P> {
 
     // Hands on where a line does not fit behind what waits.
     fn make_room(&mut self, line: &[u8])
-        ensures told { P.tells self.new.pipe → P.tells self.old.pipe }
-        ensures notice { notice_in self.new ≡ notice_in self.old }
-        ensures stands { P.tells self.new.pipe → TakesMore [] self.old (P.tape self.old.pipe)
-            self.new (P.tape self.new.pipe) }
-        ensures asks { P.tells self.new.pipe
-            → AsksAtMost 16 0 (P.tape self.old.pipe) (P.tape self.new.pipe) }
+        ensures takes { Takes P.tells P.tape [] 16 0 self.old self.new }
         ensures no_drop { dropped_in self.new ≤ dropped_in self.old }
         ensures empty { waiting_in self.old ≡ [] → self.new ≡ self.old }
         ensures room { length (waiting_in self.old) + length line.now ≤ 65536
@@ -153,48 +136,21 @@ impl<P: Pipe> LineQueue<P> {
 
     /// Hands on what waits, as far as it is taken at once: 16 parts at most.
     pub fn hand_on(&mut self)
-        ensures told { P.tells self.new.pipe → P.tells self.old.pipe }
-        ensures notice { notice_in self.new ≡ notice_in self.old }
-        ensures stands { P.tells self.new.pipe → TakesMore [] self.old (P.tape self.old.pipe)
-            self.new (P.tape self.new.pipe) }
-        ensures asks { P.tells self.new.pipe
-            → AsksAtMost 16 0 (P.tape self.old.pipe) (P.tape self.new.pipe) }
-        ensures done { P.tells self.new.pipe
-            → IsDone 16 self.new (P.tape self.old.pipe) (P.tape self.new.pipe) }
-        ensures no_drop { dropped_in self.new ≤ dropped_in self.old }
-        ensures empty { waiting_in self.old ≡ [] → self.new ≡ self.old }
+        ensures { HandsOn P.tells P.tape 16 0 self.old self.new }
     {
         self.write_parts(PARTS, 0);
     }
 
     /// Hands on what waits, as long as some of it is taken within a second.
     pub fn finish(&mut self)
-        ensures told { P.tells self.new.pipe → P.tells self.old.pipe }
-        ensures notice { notice_in self.new ≡ notice_in self.old }
-        ensures stands { P.tells self.new.pipe → TakesMore [] self.old (P.tape self.old.pipe)
-            self.new (P.tape self.new.pipe) }
-        ensures asks { P.tells self.new.pipe
-            → AsksAtMost 65536 1000 (P.tape self.old.pipe) (P.tape self.new.pipe) }
-        ensures done { P.tells self.new.pipe
-            → IsDone 65536 self.new (P.tape self.old.pipe) (P.tape self.new.pipe) }
-        ensures no_drop { dropped_in self.new ≤ dropped_in self.old }
-        ensures empty { waiting_in self.old ≡ [] → self.new ≡ self.old }
+        ensures { HandsOn P.tells P.tape 65536 1000 self.old self.new }
     {
         self.write_parts(ROOM, PATIENCE);
     }
 
     // Writes so many parts at most, as long as the pipe takes bytes within so many milliseconds.
     fn write_parts(&mut self, parts: usize, milliseconds: u64)
-        ensures told { P.tells self.new.pipe → P.tells self.old.pipe }
-        ensures notice { notice_in self.new ≡ notice_in self.old }
-        ensures stands { P.tells self.new.pipe → TakesMore [] self.old (P.tape self.old.pipe)
-            self.new (P.tape self.new.pipe) }
-        ensures asks { P.tells self.new.pipe → AsksAtMost parts milliseconds
-            (P.tape self.old.pipe) (P.tape self.new.pipe) }
-        ensures done { P.tells self.new.pipe
-            → IsDone parts self.new (P.tape self.old.pipe) (P.tape self.new.pipe) }
-        ensures no_drop { dropped_in self.new ≤ dropped_in self.old }
-        ensures empty { waiting_in self.old ≡ [] → self.new ≡ self.old }
+        ensures { HandsOn P.tells P.tape parts milliseconds self.old self.new }
     {
         for _ in 0..parts {
             if self.waiting.is_empty() {

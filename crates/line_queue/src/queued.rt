@@ -1,6 +1,7 @@
 ghost use Rattle.std.specs.Prelude.{◌≡◌, ◌∷◌, [], Option};
 ghost use Rattle.line_queue.specs.Entries.{capped_count};
-ghost use Rattle.line_queue.specs.LineOutputs.{Changes, HandsOn, Puts, Shows, Takes};
+ghost use Rattle.line_queue.specs.Handing.{HandsOn, Puts, Takes};
+ghost use Rattle.line_queue.specs.LineOutputs.{Changes, ShowsFile};
 ghost use Rattle.line_queue.specs.LineOutputs.{files_before, given_in, look_in};
 ghost use Rattle.line_queue.specs.Owed.{owed_by_outputs};
 ghost use Rattle.line_queue.specs.declared.owed.WrittenFile.{WrittenFile as FileOf};
@@ -35,12 +36,17 @@ pub struct QueuedOutputs<R, M> {
     before: WrittenFiles,
 }
 
-impl<R: Drop, M: Drop> QueuedOutputs<R, M> {
-    /// The outputs of a night, whose files were so before it.
-    pub fn new(replies: LineOutput<R>, messages: LineOutput<M>, before: WrittenFiles) -> Self
+impl<R: FilePipe + Drop, M: FilePipe<System = R::System> + Drop> QueuedOutputs<R, M> {
+    /// The outputs of a night that begins. It is looked how their files are before it.
+    pub fn open(replies: LineOutput<R>, messages: LineOutput<M>, system: &R::System) -> Self
         ensures outputs { (result.replies ≡ replies) × (result.messages ≡ messages) }
-        ensures before { files_before result ≡ before }
+        ensures before { ShowsFile R.shows replies.queue (files_before result).output
+            × ShowsFile M.shows messages.queue (files_before result).error }
     {
+        let before = WrittenFiles {
+            output: replies.written_file(system),
+            error: messages.written_file(system),
+        };
         QueuedOutputs {
             replies,
             messages,
@@ -58,8 +64,8 @@ impl<R: FilePipe, M: FilePipe<System = R::System>> Writers for QueuedOutputs<R, 
 
     fn owed_bytes(&mut self, system: &R::System) -> u64
         ensures same { self.new ≡ self.old }
-        ensures owed { (now : FilesOf) × Shows R.shows self.old.replies.queue now.output
-            × Shows M.shows self.old.messages.queue now.error × (result
+        ensures owed { (now : FilesOf) × ShowsFile R.shows self.old.replies.queue now.output
+            × ShowsFile M.shows self.old.messages.queue now.error × (result
             ≡ capped_count (owed_by_outputs (files_before self.old) (given_in self.old) now)) }
     {
         let given = GivenBytes {

@@ -1,9 +1,10 @@
 ghost use Rattle.std.specs.Prelude.{◌≡◌, ◌⊎◌, List, [], ◌∷◌, ◌++◌, true, false, IfErr, Ok};
-ghost use Rattle.line_queue.specs.Ways.{EndsInFailure, EndsWith};
+ghost use Rattle.line_queue.specs.Ways.{EndsInFailure, IsLastStep};
 ghost use Rattle.line_queue.specs.declared.way.PipeVariable.TheVariants.{NamesNothing};
 ghost use Rattle.line_queue.specs.declared.way.WayStep.{WayStep as StepOf};
 ghost use Rattle.line_queue.specs.declared.way.WayStep.TheVariants as step;
 
+use std::env::VarError;
 use std::io::ErrorKind;
 
 /// What the variable of the environment says that may name a pipe.
@@ -15,6 +16,20 @@ pub enum PipeVariable {
     NamesNothing,
     /// An allocation failed, so it is not known.
     OutOfMemory,
+}
+
+impl PipeVariable {
+    ghost use Rattle.line_queue.specs.Ways.{unread_variable};
+
+    /// What a variable says that cannot be read.
+    pub fn of_error(error: VarError) -> Self
+        ensures { result ≡ unread_variable error }
+    {
+        match error {
+            VarError::OutOfMemory => PipeVariable::OutOfMemory,
+            _ => PipeVariable::NamesNothing,
+        }
+    }
 }
 
 /// A step on the way of an output's bytes, with the answer of the system.
@@ -86,10 +101,10 @@ pub trait WaySystem {
 pub fn open_way<S: WaySystem>(system: &mut S) -> Result<bool, ErrorKind>
     ensures told { S.tells system.new → S.tells system.old }
     ensures pipe { S.tells system.new → result ≡ Ok true
-        → EndsWith (step.Writing (Ok tt)) (S.steps system.old) (S.steps system.new) }
+        → IsLastStep (step.Writing (Ok tt)) (S.steps system.old) (S.steps system.new) }
     ensures no_pipe { S.tells system.new → result ≡ Ok false
-        → EndsWith (step.Variable NamesNothing) (S.steps system.old) (S.steps system.new)
-        ⊎ EndsWith (step.Output (Ok false)) (S.steps system.old) (S.steps system.new) }
+        → IsLastStep (step.Variable NamesNothing) (S.steps system.old) (S.steps system.new)
+        ⊎ IsLastStep (step.Output (Ok false)) (S.steps system.old) (S.steps system.new) }
     ensures failure { IfErr result (λ reason. S.tells system.new
         → EndsInFailure reason (S.steps system.old) (S.steps system.new)) }
 {

@@ -1,3 +1,4 @@
 mod BoothOrder
+pub mod InTurn
 pub mod NightLaws
 pub mod NightOrder

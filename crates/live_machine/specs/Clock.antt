@@ -8,7 +8,7 @@ moment_at start passed = min (start + passed / 1000000) 18446744073709551615
 
 -- the clock of a night is right: it never falls, it is never ahead of the time that has passed, and
 -- less than a millisecond behind it
-pub record IsRight (start earlier later : ℕ) : Type 0 where
+pub record IsClockRight (start earlier later : ℕ) : Type 0 where
   pub never_falls : moment_at start earlier ≤ moment_at start later
   pub never_ahead : moment_at start later * 1000000 ≤ start * 1000000 + later
   pub never_late : moment_at start later < 18446744073709551615

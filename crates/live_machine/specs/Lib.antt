@@ -4,12 +4,15 @@ pub mod BoothLaws
 pub mod BoothSteps
 pub mod Clock
 pub mod Failure
+pub mod InTurn
 pub mod Input
 pub mod InputEnd
 pub mod Kept
 pub mod MemoryNight
+pub mod NightChoice
 pub mod NightDevices
 pub mod NightKinds
 pub mod NightLaws
+pub mod NightRun
 pub mod NightStart
 pub mod NightSteps

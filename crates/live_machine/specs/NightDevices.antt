@@ -1,6 +1,7 @@
 -- In which order the devices of a live night are opened, and its record begun.
-use Rattle.std.specs.Prelude.{ℕ, zero, suc, Bool, true, false, if◌then◌else◌, List, [], ◌∷◌}
+use Rattle.std.specs.Prelude.{ℕ, Bool, true, false, if◌then◌else◌, List, [], ◌∷◌}
 use Rattle.std.specs.Prelude.{Option, Some, None, Result, Ok, Err, ⊤}
+use Rattle.live_machine.specs.InTurn.{all_of, all_but}
 use Rattle.live_machine.specs.declared.night_devices.DeviceStep.{DeviceStep}
 use Rattle.live_machine.specs.declared.night_devices.NightDevice.{NightDevice}
 use Rattle.live_machine.specs.declared.night_devices.NightDevice.TheVariants.{Record, Screen}
@@ -28,14 +29,11 @@ missing_step device = device_step device false
 
 -- each was opened
 abbrev pub all_opened : List NightDevice → List DeviceStep
-all_opened [] = []
-all_opened (device ∷ devices) = open_step device ∷ all_opened devices
+all_opened devices = all_of device_step devices
 
 -- so many were opened, and the next one was not had; those behind it are not asked for
 abbrev pub opened_but : ℕ → List NightDevice → List DeviceStep
-opened_but count [] = []
-opened_but zero (device ∷ devices) = missing_step device ∷ []
-opened_but (suc count) (device ∷ devices) = open_step device ∷ opened_but count devices
+opened_but count devices = all_but device_step count devices
 
 -- a device over memory is had, unless it is the missing one
 abbrev pub is_had : Option NightDevice → NightDevice → Bool

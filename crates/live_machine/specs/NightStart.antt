@@ -14,7 +14,8 @@ told_start Follows = []
 abbrev pub before_pause : NightRole → List StartStep
 before_pause role = step.MissingLocks ∷ told_start role
 
--- all steps: the file of a record shows how long nobody wrote to it until the record is begun or cut
+-- all steps: the file of a record shows how long nobody wrote to it until the record is begun or
+-- cut
 abbrev pub whole_start : NightRole → List StartStep
 whole_start role = before_pause role ++ step.Pause true ∷ step.Record true ∷ []
 

@@ -20,12 +20,13 @@ followed_steps lines Ended = success (deed.Follow lines) ∷ []
 followed_steps lines Over = success (deed.Follow lines) ∷ success deed.Over ∷ []
 
 -- of use inside the crate: a main was followed as far as these lines go
-abbrev pub followed_till : ℕ → MainLines → Bool → List NightStep
-followed_till times lines true = place_turns times lines ++ followed_steps lines Over
-followed_till times lines false = place_turns times lines ++ followed_steps lines Ended
+abbrev pub follow_till_steps : ℕ → MainLines → Bool → List NightStep
+follow_till_steps times lines true = place_turns times lines ++ followed_steps lines Over
+follow_till_steps times lines false = place_turns times lines ++ followed_steps lines Ended
 
 -- and then the night was led, unless the main has ended it
-abbrev pub led_on : {E : Type 0} → ℕ → Option E → List NightStep
-led_on later None = followed_till later Coming true ++ success deed.OverLine ∷ []
-led_on later (Some end) = followed_till later Coming false
-    ++ all_done (deed.LeadLine ∷ deed.HandOver ∷ deed.Lead ∷ [])
+abbrev pub lead_on_steps : {E : Type 0} → ℕ → Option E → List NightStep
+lead_on_steps later None = place_turns later Coming
+    ++ all_done (deed.Follow Coming ∷ deed.Over ∷ deed.OverLine ∷ [])
+lead_on_steps later (Some end) = place_turns later Coming
+    ++ all_done (deed.Follow Coming ∷ deed.LeadLine ∷ deed.HandOver ∷ deed.Lead ∷ [])

@@ -1,7 +1,7 @@
 ghost use Rattle.std.specs.Prelude.{◌≡◌, ◌≤◌, ℕ, [], ◌∷◌, IfOk, OnErr};
 ghost use Rattle.devices.specs.Tape.{Tape, with_failure, with_more};
 ghost use Rattle.std.specs.Duration.{as_nanos};
-ghost use Rattle.live_machine.specs.Clock.{IsRight, moment_at};
+ghost use Rattle.live_machine.specs.Clock.{IsClockRight, moment_at};
 
 use devices::LinkFault;
 use std::time::Duration;
@@ -70,5 +70,5 @@ impl<C: MachineClock> NightClock<C> {
 /// The clock of a night is right, whatever the machine's shows.
 pub fn clock_law(start: u64, earlier: Duration, later: Duration)
     requires { as_nanos earlier ≤ as_nanos later }
-    ensures { IsRight start (as_nanos earlier) (as_nanos later) }
+    ensures { IsClockRight start (as_nanos earlier) (as_nanos later) }
 {}

@@ -1,6 +1,6 @@
 ghost use Rattle.std.specs.Prelude.{◌≡◌, ◌<◌, ℕ, List, [], ◌∷◌, ◌++◌, OnOk, OnErr};
-ghost use Rattle.live_machine.specs.NightDevices.{all_opened, behind_record, device_order, missing_step};
-ghost use Rattle.live_machine.specs.NightDevices.{open_step, opened_but};
+ghost use Rattle.live_machine.specs.NightDevices.{all_opened, behind_record, device_order};
+ghost use Rattle.live_machine.specs.NightDevices.{missing_step, open_step, opened_but};
 ghost use Rattle.live_machine.specs.declared.night_devices.DeviceStep.{DeviceStep as StepOf};
 ghost use Rattle.live_machine.specs.declared.night_devices.NightDevice.TheVariants as device;
 

@@ -1,9 +1,9 @@
-ghost use Rattle.std.specs.Prelude.{◌≡◌, ◌<◌, ◌⊎◌, ℕ, ◌++◌, ◌∷◌, [], IfOk, OnOk, OnErr};
-ghost use Rattle.live_machine.specs.NightKinds.{BackupStop, all_done, alone, place_turns, backup_steps};
-ghost use Rattle.live_machine.specs.NightKinds.{success, done_but, failure, joins, lead_deeds, spare};
-ghost use Rattle.live_machine.specs.NightKinds.{spare_steps, stopped_steps};
+ghost use Rattle.std.specs.Prelude.{◌≡◌, ◌⊎◌, ℕ, ◌++◌, ◌∷◌, [], IfOk, OnOk, OnErr};
+ghost use Rattle.live_machine.specs.NightKinds.{BackupEnds, BackupStops, StopsIn, all_done};
+ghost use Rattle.live_machine.specs.NightKinds.{alone_deeds, failure, join_deeds, lead_deeds};
+ghost use Rattle.live_machine.specs.NightKinds.{place_turns, spare_deeds, spare_steps, success};
 ghost use Rattle.live_machine.specs.NightLaws.{BackupNightLaw, SpareNightLaw};
-ghost use Rattle.live_machine.specs.NightSteps.{followed_till, led_on};
+ghost use Rattle.live_machine.specs.NightSteps.{follow_till_steps, lead_on_steps};
 ghost use Rattle.live_machine.specs.declared.night_start.NightRole.TheVariants.{Leads};
 ghost use Rattle.live_machine.specs.declared.night_system.MainLines.TheVariants.{Coming};
 ghost use Rattle.live_machine.specs.declared.night_system.NightDeed.TheVariants as deed;
@@ -11,14 +11,14 @@ ghost use Rattle.live_machine.specs.declared.night_system.NightDeed.TheVariants 
 use crate::night_start::NightRole;
 use crate::night_system::{FollowEnd, MainLines, NightSystem};
 
-/// How a night behind a main ended.
+/// How a night ended.
 #[derive(Clone, Copy, Debug, PartialEq, Eq)]
-pub enum BackupEnd<E> {
-    /// It was over when this one came.
+pub enum NightEnd<E> {
+    /// It was over when this process came.
     WasOver,
-    /// The main has ended it.
-    MainEnded,
-    /// It went on by itself, and ended like this.
+    /// The other process has ended it, which it followed or stood by for.
+    OtherEnded,
+    /// It was led by this process, and ended like this.
     Led(E),
 }
 
@@ -40,9 +40,9 @@ pub fn play_alone<S: NightSystem>(
 ) -> Result<S::End, S::Fault>
     ensures told { S.tells system.new → S.tells system.old }
     ensures ok { OnOk result (S.tells system.new
-        → S.steps system.new ≡ S.steps system.old ++ all_done alone) }
-    ensures err { OnErr result (S.tells system.new → (count : ℕ) × (count < 3)
-        × (S.steps system.new ≡ S.steps system.old ++ done_but count alone)) }
+        → S.steps system.new ≡ S.steps system.old ++ all_done alone_deeds) }
+    ensures err { OnErr result (S.tells system.new
+        → StopsIn 3 alone_deeds (S.steps system.old) (S.steps system.new)) }
 {
     let devices = system.open_devices(descriptors)?;
     let mut night = system.open_night(&devices)?;
@@ -63,8 +63,8 @@ pub fn play_spare<S: NightSystem>(
     ensures told { S.tells system.new → S.tells system.old }
     ensures ok { IfOk result (λ end. S.tells system.new
         → S.steps system.new ≡ S.steps system.old ++ spare_steps end) }
-    ensures err { OnErr result (S.tells system.new → (count : ℕ) × (count < 6)
-        × (S.steps system.new ≡ S.steps system.old ++ done_but count spare)) }
+    ensures err { OnErr result (S.tells system.new
+        → StopsIn 6 spare_deeds (S.steps system.old) (S.steps system.new)) }
 {
     let mut played = system.open_played_record(name)?;
     let mut night = system.new_night()?;
@@ -87,25 +87,25 @@ pub fn play_backup<S: NightSystem>(
     system: &mut S,
     name: S::MainName,
     descriptors: S::Descriptors,
-) -> Result<BackupEnd<S::End>, S::Fault>
+) -> Result<NightEnd<S::End>, S::Fault>
     ensures told { S.tells system.new → S.tells system.old }
-    ensures ok { IfOk result (λ end. S.tells system.new → (times later : ℕ)
-        × (S.steps system.new ≡ S.steps system.old ++ backup_steps times later end)) }
-    ensures err { OnErr result (S.tells system.new → (stop : BackupStop)
-        × (S.steps system.new ≡ S.steps system.old ++ stopped_steps stop)) }
+    ensures ok { IfOk result (λ end. S.tells system.new
+        → BackupEnds end (S.steps system.old) (S.steps system.new)) }
+    ensures err { OnErr result (S.tells system.new
+        → BackupStops (S.steps system.old) (S.steps system.new)) }
 {
     let (mut main, mut night, mut booth) = join_main(system, name, descriptors)?;
     let lines = MainLines::Standing;
     if follow_till(system, &mut night, &mut main, &mut booth, lines)? {
-        return Ok(BackupEnd::WasOver);
+        return Ok(NightEnd::WasOver);
     }
     system.tell_main(&night, &main, &mut booth)?;
     system.follow_on(&mut main)?;
     let end = follow_and_lead(system, &mut night, &mut main, &mut booth);
     system.finish(&mut booth);
     match end? {
-        None => Ok(BackupEnd::MainEnded),
-        Some(end) => Ok(BackupEnd::Led(end)),
+        None => Ok(NightEnd::OtherEnded),
+        Some(end) => Ok(NightEnd::Led(end)),
     }
 }
 
@@ -153,9 +153,9 @@ fn join_main<S: NightSystem>(
     ensures can { IfOk result (λ joined. S.can_follow joined.1) }
     ensures told { S.tells system.new → S.tells system.old }
     ensures ok { OnOk result (S.tells system.new
-        → S.steps system.new ≡ S.steps system.old ++ all_done joins) }
-    ensures err { OnErr result (S.tells system.new → (count : ℕ) × (count < 4)
-        × (S.steps system.new ≡ S.steps system.old ++ done_but count joins)) }
+        → S.steps system.new ≡ S.steps system.old ++ all_done join_deeds) }
+    ensures err { OnErr result (S.tells system.new
+        → StopsIn 4 join_deeds (S.steps system.old) (S.steps system.new)) }
 {
     let main = system.open_main(name)?;
     let devices = system.open_devices(descriptors)?;
@@ -178,7 +178,7 @@ fn follow_till<S: NightSystem>(
     ensures can { OnOk result (S.can_follow night.new) }
     ensures told { S.tells system.new → S.tells system.old }
     ensures ok { IfOk result (λ is_over. S.tells system.new → (times : ℕ)
-        × (S.steps system.new ≡ S.steps system.old ++ followed_till times lines is_over)) }
+        × (S.steps system.new ≡ S.steps system.old ++ follow_till_steps times lines is_over)) }
     ensures err { OnErr result (S.tells system.new → (times : ℕ)
         × (S.steps system.new
         ≡ S.steps system.old ++ place_turns times lines ++ failure (deed.Follow lines) ∷ [])) }
@@ -203,7 +203,7 @@ fn follow_and_lead<S: NightSystem>(
     requires can { S.can_follow night.old }
     ensures told { S.tells system.new → S.tells system.old }
     ensures ok { IfOk result (λ end. S.tells system.new → (later : ℕ)
-        × (S.steps system.new ≡ S.steps system.old ++ led_on later end)) }
+        × (S.steps system.new ≡ S.steps system.old ++ lead_on_steps later end)) }
     ensures err { OnErr result (S.tells system.new → (later : ℕ)
         × ((S.steps system.new
         ≡ S.steps system.old ++ place_turns later Coming ++ failure (deed.Follow Coming) ∷ [])

@@ -251,7 +251,8 @@ pub trait NightSystem {
     /// Watches the network from now on.
     fn watch(&mut self, booth: &mut Self::Booth)
         ensures told { tells self.new → tells self.old }
-        ensures step { tells self.new → steps self.new ≡ steps self.old ++ success deed.Watch ∷ [] };
+        ensures step { tells self.new
+            → steps self.new ≡ steps self.old ++ success deed.Watch ∷ [] };
 
     /// Carries out lines of the main's record.
     ///
@@ -277,7 +278,8 @@ pub trait NightSystem {
     /// Shows where the night is.
     fn show_place(&mut self, night: &Self::Night, booth: &mut Self::Booth)
         ensures told { tells self.new → tells self.old }
-        ensures step { tells self.new → steps self.new ≡ steps self.old ++ success deed.Place ∷ [] };
+        ensures step { tells self.new
+            → steps self.new ≡ steps self.old ++ success deed.Place ∷ [] };
 
     /// Tells whom the night follows, and where it is.
     ///
@@ -346,7 +348,8 @@ pub trait NightSystem {
     /// Hands on what waits, and waits for writers.
     fn finish(&mut self, booth: &mut Self::Booth)
         ensures told { tells self.new → tells self.old }
-        ensures step { tells self.new → steps self.new ≡ steps self.old ++ success deed.Finish ∷ [] };
+        ensures step { tells self.new
+            → steps self.new ≡ steps self.old ++ success deed.Finish ∷ [] };
 
     /// A night that can take up lines can be played.
     ghost plays: { (night : Self.Night) → can_follow night → is_playable night };

@@ -4,11 +4,12 @@ use Rattle.std.proofs.Common.{◌⊎◌, inl, inr, length}
 use Rattle.std.specs.Prelude.{nat_le, is_some, Option, Some, None, Result, Ok, Err}
 use Rattle.std.specs.Prelude.{if◌then◌else◌}
 use Rattle.arrayvec.specs.declared.array_string.ArrayString.{ArrayString}
-use Rattle.night_files.specs.CidLockLaws.{AreInOwnFolder, CidLockLaw, IsAnswered, OnlyLastFails}
-use Rattle.night_files.specs.CidLockLaws.{fails}
+use Rattle.night_files.specs.CidLockLaws.{AreInOwnFolder, CidLockLaw, IsAnswered, StopsWithoutLock}
+use Rattle.night_files.specs.CidLockLaws.{lock_step_fails}
 use Rattle.night_files.specs.CidLocks.{IsCidLock, IsFileOpening, IsFolderChoice, IsFolderLook}
 use Rattle.night_files.specs.CidLocks.{IsFolderMaking, IsNamedFolder, IsOwnFolder}
-use Rattle.night_files.specs.CidLocks.{UnlessHindered, UnlessTooLong, answer_of, hindrance, is_own}
+use Rattle.night_files.specs.CidLocks.{UnlessHindered, UnlessTooLong, failure_answer, hindrance}
+use Rattle.night_files.specs.CidLocks.{is_own_folder}
 use Rattle.night_files.specs.LockPaths.{lock_folder, lock_path}
 use Rattle.night_files.specs.declared.cid_lock.CidLockStep.{CidLockStep}
 use Rattle.night_files.specs.declared.cid_lock.CidLockStep.TheVariants as step
@@ -22,21 +23,21 @@ use Rattle.night_files.specs.declared.record_opening.FileFault.TheVariants.{Memo
 -- what holds of the steps from one on
 abbrev Facts : List ℕ → ℕ → Result Bool LockFault → List CidLockStep → Type 0
 Facts cid user result steps =
-    AreInOwnFolder cid user steps × IsAnswered result steps × OnlyLastFails steps
+    AreInOwnFolder cid user steps × IsAnswered result steps × StopsWithoutLock steps
 
-failed : (fault : FileFault) (result : Result Bool LockFault) → result ≡ answer_of fault
+failed : (fault : FileFault) (result : Result Bool LockFault) → result ≡ failure_answer fault
     → (result ≡ Ok false) ⊎ (result ≡ Err lock_fault.Memory)
 failed Memory result is = inr is
 failed (System reason) result is = inl is
 
-behind : (each : CidLockStep) (steps : List CidLockStep) → fails each ≡ false
-    → OnlyLastFails steps → OnlyLastFails (each ∷ steps)
+behind : (each : CidLockStep) (steps : List CidLockStep) → lock_step_fails each ≡ false
+    → StopsWithoutLock steps → StopsWithoutLock (each ∷ steps)
 behind each [] done rest = tt
 behind each (next ∷ steps) done rest = (done, rest)
 
 opening : (cid : List ℕ) (user : ℕ) (folder : ArrayString 512) (found : Option FoundFolder)
     (path : List ℕ) (steps : List CidLockStep) (result : Result Bool LockFault)
-    → is_own found user ≡ true → path ≡ lock_path folder.bytes cid
+    → is_own_folder found user ≡ true → path ≡ lock_path folder.bytes cid
     → IsFileOpening path steps result → Facts cid user result (step.Look folder found ∷ steps)
 opening cid user folder found path (step.Open opened (Err fault) ∷ steps) result own is h =
     rw h.1.0 ((own, h.0 ∙ is, tt), failed fault result h.1.1, (refl, tt))
@@ -51,7 +52,7 @@ opening cid user folder found path steps result own is h = absurd h
 
 fitting_path : (cid : List ℕ) (user : ℕ) (folder : ArrayString 512) (found : Option FoundFolder)
     (path : List ℕ) (fits : Bool) (steps : List CidLockStep) (result : Result Bool LockFault)
-    → is_own found user ≡ true → path ≡ lock_path folder.bytes cid
+    → is_own_folder found user ≡ true → path ≡ lock_path folder.bytes cid
     → UnlessTooLong (if fits then Some path else None) IsFileOpening steps result
     → Facts cid user result (step.Look folder found ∷ steps)
 fitting_path cid user folder found path false steps result own is h =
@@ -61,7 +62,7 @@ fitting_path cid user folder found path true steps result own is h =
 
 own_folder : (cid : List ℕ) (user : ℕ) (at : ArrayString 512) (found : Option FoundFolder)
     (folder : List ℕ) (own : Bool) (steps : List CidLockStep) (result : Result Bool LockFault)
-    → is_own found user ≡ own → at.bytes ≡ folder → IsOwnFolder cid folder own steps result
+    → is_own_folder found user ≡ own → at.bytes ≡ folder → IsOwnFolder cid folder own steps result
     → Facts cid user result (step.Look at found ∷ steps)
 own_folder cid user at found folder false steps result own is h = rw h.0 (tt, inl h.1, tt)
 own_folder cid user at found folder true steps result own is (inl h) = rw h.0 (tt, inr h.1, tt)
@@ -73,7 +74,7 @@ folder_look : (cid : List ℕ) (user : ℕ) (folder : List ℕ) (steps : List Ci
     (result : Result Bool LockFault) → IsFolderLook cid user folder steps result
     → Facts cid user result steps
 folder_look cid user folder (step.Look path found ∷ steps) result h =
-    own_folder cid user path found folder (is_own found user) steps result refl h.0 h.1
+    own_folder cid user path found folder (is_own_folder found user) steps result refl h.0 h.1
 folder_look cid user folder steps result h = absurd h
 
 unless_hindered : (cid : List ℕ) (user : ℕ) (folder : List ℕ) (path : ArrayString 512)
@@ -119,7 +120,7 @@ choosing : (cid : List ℕ) (user : ℕ) (steps : List CidLockStep)
     (result : Result Bool LockFault) → IsFolderChoice cid user steps result
     → Facts cid user result steps
 choosing cid user (step.Look path found ∷ steps) result h =
-    naming cid user (is_own found user) path found steps result h.1
+    naming cid user (is_own_folder found user) path found steps result h.1
 choosing cid user steps result h = absurd h
 
 asking : (cid : List ℕ) (before : ℕ) (steps : List CidLockStep)
@@ -135,5 +136,5 @@ pub cid_lock_order : CidLockLaw
 cid_lock_order = record {
   in_own_folder = λ cid before steps result h. (asking cid before steps result h).0;
   answered = λ cid steps result h. (asking cid 0 steps result h).1;
-  only_last_fails = λ cid steps result h. (asking cid 0 steps result h).2;
+  stops = λ cid steps result h. (asking cid 0 steps result h).2;
 }

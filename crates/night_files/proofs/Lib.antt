@@ -1,3 +1,4 @@
 pub mod CidLockOrder
+pub mod HolderOrder
 mod LockSearch
 pub mod RecordOrder

@@ -3,13 +3,16 @@ use Rattle.std.proofs.Common.{◌≡◌, ◌∙◌, Bool, true, false, List, [],
 use Rattle.std.proofs.lemmas.Bool.{true≢false}
 use Rattle.std.specs.Prelude.{⊤, not, ◌||◌, Option, Some, None, Result, Ok, Err, if◌then◌else◌}
 use Rattle.std.specs.List.{list_any}
-use Rattle.night_files.specs.RecordLaws.{AreReadBehindLook, IsOpenedOnce, OnlyLastFails}
-use Rattle.night_files.specs.RecordLaws.{RecordOpeningLaw, TakeOverLaw, asks_for_lock, fails}
-use Rattle.night_files.specs.RecordLaws.{is_safe, opens_or_removes, reads}
-use Rattle.night_files.specs.RecordOpenings.{IsFileReading, IsFirstLook, IsLockAnswer}
+use Rattle.night_files.specs.RecordLaws.{AreReadBehindLook, IsOpenedOnce, StopsAtFailure}
+use Rattle.night_files.specs.RecordLaws.{RecordOpeningLaw, TakeOverLaw, asks_for_lock}
+use Rattle.night_files.specs.RecordLaws.{is_safe, may_follow, opens_or_removes}
+use Rattle.night_files.specs.RecordLaws.{reads, record_step_fails}
+use Rattle.night_files.specs.RecordOpenings.{IsFileReading, IsInUse, IsRecordLook}
 use Rattle.night_files.specs.RecordOpenings.{IsLockIfAny, IsLocking, IsRecordOpening}
 use Rattle.night_files.specs.RecordOpenings.{IsSecondLook, IsTakeOver, UnlessRefused}
-use Rattle.night_files.specs.RecordUses.{lock_to_open, refusal_of}
+use Rattle.night_files.specs.FileNodes.{is_same_file}
+use Rattle.night_files.specs.RecordUses.{refusal_of}
+use Rattle.night_files.specs.declared.file_node.FileNode.{FileNode}
 use Rattle.night_files.specs.declared.lock_request.FileLock.{FileLock}
 use Rattle.night_files.specs.declared.lock_request.FileLock.TheVariants.{Missing, Ours, Theirs}
 use Rattle.night_files.specs.declared.record_opening.OpeningFault.{OpeningFault}
@@ -31,7 +34,7 @@ IsQuiet Watch steps = ⊤
 -- what holds of the steps behind the opening
 abbrev Facts : RecordUse → Bool → Bool → List RecordStep → Type 0
 Facts aim is_locked is_found steps = AreReadBehindLook is_locked is_found steps
-    × (list_any opens_or_removes steps ≡ false) × OnlyLastFails steps × IsQuiet aim steps
+    × (list_any opens_or_removes steps ≡ false) × StopsAtFailure steps × IsQuiet aim steps
 
 quiet_end : (aim : RecordUse) → IsQuiet aim []
 quiet_end Begin = refl
@@ -44,10 +47,18 @@ quiet Begin each steps none rest = rw none rest
 quiet Resume each steps none rest = tt
 quiet Watch each steps none rest = tt
 
-behind : (each : RecordStep) (steps : List RecordStep) → fails each ≡ false → OnlyLastFails steps
-    → OnlyLastFails (each ∷ steps)
+-- whatever follows a step that did not fail
+follows_done : (each next : RecordStep) → record_step_fails each ≡ false
+    → may_follow each next ≡ true
+follows_done (step.Lock Ours) next done = refl
+follows_done (step.Lock Missing) next done = refl
+follows_done (step.Lock Theirs) next done = absurd (true≢false done)
+follows_done each next done = ap not done
+
+behind : (each : RecordStep) (steps : List RecordStep) → record_step_fails each ≡ false
+    → StopsAtFailure steps → StopsAtFailure (each ∷ steps)
 behind each [] done rest = tt
-behind each (next ∷ steps) done rest = (done, rest)
+behind each (next ∷ steps) done rest = (follows_done each next done, rest)
 
 none_left : (aim : RecordUse) (is_locked is_found : Bool) (steps : List RecordStep) → steps ≡ []
     → Facts aim is_locked is_found steps
@@ -84,65 +95,86 @@ second : (aim : RecordUse) (has_lock : Bool) (steps : List RecordStep)
     → Facts aim true false steps
 second aim has_lock (step.LookAgain (Err fault) ∷ steps) result h =
     rw h.0 (tt, refl, tt, quiet aim (step.LookAgain (Err fault)) [] refl (quiet_end aim))
-second aim has_lock (step.LookAgain (Ok found) ∷ steps) result h =
-    let rest = named aim has_lock found.is_named
-    (refusal_of aim found.found.is_regular found.found.length) steps result h in (
+second aim has_lock (step.LookAgain (Ok again) ∷ steps) result h =
+    let rest = named aim has_lock (is_same_file again.named again.found.node)
+    (refusal_of aim again.found.is_regular again.found.length) steps result h in (
       rest.0,
       rest.1,
-      behind (step.LookAgain (Ok found)) steps refl rest.2,
-      quiet aim (step.LookAgain (Ok found)) steps refl rest.3,
+      behind (step.LookAgain (Ok again)) steps refl rest.2,
+      quiet aim (step.LookAgain (Ok again)) steps refl rest.3,
     )
 second aim has_lock steps result h = absurd h
 
 -- ---- from the lock on
 
-locked : (aim : RecordUse) (lock : FileLock) (steps : List RecordStep)
-    (result : Result Bool OpeningFault) → IsLockAnswer aim (lock_to_open lock) steps result
-    → Facts aim false false (step.Lock lock ∷ steps)
-locked aim Ours steps result h =
+in_use : (aim : RecordUse) (node : FileNode) (steps : List RecordStep)
+    (result : Result Bool OpeningFault) → IsInUse node steps result
+    → Facts aim false false (step.Lock Theirs ∷ steps)
+in_use aim node (step.Listed asked None ∷ steps) result h = rw h.1.1 (
+  tt,
+  refl,
+  (refl, tt),
+  quiet aim (step.Lock Theirs) (step.Listed asked None ∷ []) refl
+      (quiet aim (step.Listed asked None) [] refl (quiet_end aim)),
+)
+in_use aim node (step.Listed asked (Some process) ∷ step.Process sought is_there ∷ steps) result h =
+    rw h.1.2 (
+      tt,
+      refl,
+      (refl, (refl, tt)),
+      quiet aim (step.Lock Theirs)
+          (step.Listed asked (Some process) ∷ step.Process sought is_there ∷ []) refl
+          (quiet aim (step.Listed asked (Some process)) (step.Process sought is_there ∷ []) refl
+          (quiet aim (step.Process sought is_there) [] refl (quiet_end aim))),
+    )
+in_use aim node steps result h = absurd h.1
+
+locking : (aim : RecordUse) (node : FileNode) (steps : List RecordStep)
+    (result : Result Bool OpeningFault) → IsLocking aim node steps result
+    → Facts aim false false steps
+locking aim node (step.Lock Ours ∷ steps) result h =
     let rest = second aim true steps result h in (
       rest.0,
       rest.1,
       behind (step.Lock Ours) steps refl rest.2,
       quiet aim (step.Lock Ours) steps refl rest.3,
     )
-locked aim Missing steps result h =
+locking aim node (step.Lock Missing ∷ steps) result h =
     let rest = second aim false steps result h in (
       rest.0,
       rest.1,
       behind (step.Lock Missing) steps refl rest.2,
       quiet aim (step.Lock Missing) steps refl rest.3,
     )
-locked aim Theirs steps result h =
-    rw h.0 (tt, refl, tt, quiet aim (step.Lock Theirs) [] refl (quiet_end aim))
+locking aim node (step.Lock Theirs ∷ steps) result h = in_use aim node steps result h
+locking aim node steps result h = absurd h
 
-locking : (aim : RecordUse) (steps : List RecordStep) (result : Result Bool OpeningFault)
-    → IsLocking aim steps result → Facts aim false false steps
-locking aim (step.Lock lock ∷ steps) result h = locked aim lock steps result h
-locking aim steps result h = absurd h
-
-lock_if_any : (aim : RecordUse) (is_regular : Bool) (steps : List RecordStep)
-    (result : Result Bool OpeningFault) → IsLockIfAny aim is_regular steps result
+lock_if_any : (aim : RecordUse) (is_regular : Bool) (node : FileNode) (steps : List RecordStep)
+    (result : Result Bool OpeningFault) → IsLockIfAny aim is_regular node steps result
     → Facts aim false false steps
-lock_if_any Watch is_regular steps result h = none_left Watch false false steps h.0
-lock_if_any Begin false steps result h = none_left Begin false false steps h.0
-lock_if_any Resume false steps result h = none_left Resume false false steps h.0
-lock_if_any Begin true steps result h = locking Begin steps result h
-lock_if_any Resume true steps result h = locking Resume steps result h
+lock_if_any Watch is_regular node steps result h = none_left Watch false false steps h.0
+lock_if_any Begin false node steps result h = none_left Begin false false steps h.0
+lock_if_any Resume false node steps result h = none_left Resume false false steps h.0
+lock_if_any Begin true node steps result h = locking Begin node steps result h
+lock_if_any Resume true node steps result h = locking Resume node steps result h
 
-unless_refused : (aim : RecordUse) (is_regular : Bool) (refused : Option RecordRefusal)
-    (steps : List RecordStep) (result : Result Bool OpeningFault)
-    → UnlessRefused refused (IsLockIfAny aim is_regular) steps result → Facts aim false false steps
-unless_refused aim is_regular (Some reason) steps result h = none_left aim false false steps h.0
-unless_refused aim is_regular None steps result h = lock_if_any aim is_regular steps result h
+unless_refused : (aim : RecordUse) (is_regular : Bool) (node : FileNode)
+    (refused : Option RecordRefusal) (steps : List RecordStep)
+    (result : Result Bool OpeningFault)
+    → UnlessRefused refused (IsLockIfAny aim is_regular node) steps result
+    → Facts aim false false steps
+unless_refused aim is_regular node (Some reason) steps result h =
+    none_left aim false false steps h.0
+unless_refused aim is_regular node None steps result h =
+    lock_if_any aim is_regular node steps result h
 
 first : (aim : RecordUse) (steps : List RecordStep) (result : Result Bool OpeningFault)
-    → IsFirstLook aim steps result → Facts aim false false steps
+    → IsRecordLook aim steps result → Facts aim false false steps
 first aim (step.Look (Err fault) ∷ steps) result h =
     rw h.0 (tt, refl, tt, quiet aim (step.Look (Err fault)) [] refl (quiet_end aim))
 first aim (step.Look (Ok found) ∷ steps) result h =
-    let rest = unless_refused aim found.is_regular (refusal_of aim found.is_regular found.length)
-    steps result h in (
+    let rest = unless_refused aim found.is_regular found.node
+    (refusal_of aim found.is_regular found.length) steps result h in (
       rest.0,
       rest.1,
       behind (step.Look (Ok found)) steps refl rest.2,
@@ -154,7 +186,7 @@ first aim steps result h = absurd h
 
 abbrev Whole : RecordUse → List RecordStep → Type 0
 Whole aim steps = AreReadBehindLook false false steps × IsOpenedOnce aim steps
-    × OnlyLastFails steps × IsQuiet aim steps
+    × StopsAtFailure steps × IsQuiet aim steps
 
 opening : (aim : RecordUse) (steps : List RecordStep) (result : Result Bool OpeningFault)
     → IsRecordOpening aim steps result → Whole aim steps
@@ -186,18 +218,18 @@ taking steps result h = absurd h
 
 -- ---- a file that is watched
 
-watch_refused : (is_regular : Bool) (refused : Option RecordRefusal) (steps : List RecordStep)
-    (result : Result Bool OpeningFault)
-    → UnlessRefused refused (IsLockIfAny Watch is_regular) steps result
+watch_refused : (is_regular : Bool) (node : FileNode) (refused : Option RecordRefusal)
+    (steps : List RecordStep) (result : Result Bool OpeningFault)
+    → UnlessRefused refused (IsLockIfAny Watch is_regular node) steps result
     → list_any (λ each. asks_for_lock each || reads each) steps ≡ false
-watch_refused is_regular (Some reason) steps result h = rw h.0 refl
-watch_refused is_regular None steps result h = rw h.0 refl
+watch_refused is_regular node (Some reason) steps result h = rw h.0 refl
+watch_refused is_regular node None steps result h = rw h.0 refl
 
 watch_look : (steps : List RecordStep) (result : Result Bool OpeningFault)
-    → IsFirstLook Watch steps result
+    → IsRecordLook Watch steps result
     → list_any (λ each. asks_for_lock each || reads each) steps ≡ false
 watch_look (step.Look (Err fault) ∷ steps) result h = rw h.0 refl
-watch_look (step.Look (Ok found) ∷ steps) result h = watch_refused found.is_regular
+watch_look (step.Look (Ok found) ∷ steps) result h = watch_refused found.is_regular found.node
     (refusal_of Watch found.is_regular found.length) steps result h
 watch_look steps result h = absurd h
 
@@ -246,36 +278,39 @@ safe_second : (aim : RecordUse) (has_lock : Bool) (steps : List RecordStep)
     → value result ≡ true → has_lock ≡ true
 safe_second aim has_lock (step.LookAgain (Err fault) ∷ steps) result h is =
     absurd (true≢false (sym is ∙ ap value h.1))
-safe_second aim has_lock (step.LookAgain (Ok found) ∷ steps) result h is =
-    safe_named aim has_lock found.is_named
-    (refusal_of aim found.found.is_regular found.found.length) steps result h is
+safe_second aim has_lock (step.LookAgain (Ok again) ∷ steps) result h is =
+    safe_named aim has_lock (is_same_file again.named again.found.node)
+    (refusal_of aim again.found.is_regular again.found.length) steps result h is
 safe_second aim has_lock steps result h is = absurd h
 
-safe_locking : (aim : RecordUse) (steps : List RecordStep) (result : Result Bool OpeningFault)
-    → IsLocking aim steps result → value result ≡ true → list_any is_safe steps ≡ true
-safe_locking aim (step.Lock Ours ∷ steps) result h is = refl
-safe_locking aim (step.Lock Missing ∷ steps) result h is =
+safe_locking : (aim : RecordUse) (node : FileNode) (steps : List RecordStep)
+    (result : Result Bool OpeningFault) → IsLocking aim node steps result → value result ≡ true
+    → list_any is_safe steps ≡ true
+safe_locking aim node (step.Lock Ours ∷ steps) result h is = refl
+safe_locking aim node (step.Lock Missing ∷ steps) result h is =
     absurd (true≢false (sym (safe_second aim false steps result h is)))
-safe_locking aim (step.Lock Theirs ∷ steps) result h is =
-    absurd (true≢false (sym is ∙ ap value h.1))
-safe_locking aim steps result h is = absurd h
+safe_locking aim node (step.Lock Theirs ∷ steps) result h is =
+    absurd (true≢false (sym is ∙ ap value h.2))
+safe_locking aim node steps result h is = absurd h
 
-safe_look : (aim : RecordUse) (is_regular : Bool) (refused : Option RecordRefusal)
-    (steps : List RecordStep) (result : Result Bool OpeningFault)
-    → UnlessRefused refused (IsLockIfAny aim is_regular) steps result → value result ≡ true
+safe_look : (aim : RecordUse) (is_regular : Bool) (node : FileNode)
+    (refused : Option RecordRefusal) (steps : List RecordStep)
+    (result : Result Bool OpeningFault)
+    → UnlessRefused refused (IsLockIfAny aim is_regular node) steps result → value result ≡ true
     → (not is_regular || list_any is_safe steps) ≡ true
-safe_look aim is_regular (Some reason) steps result h is =
+safe_look aim is_regular node (Some reason) steps result h is =
     absurd (true≢false (sym is ∙ ap value h.1))
-safe_look aim false None steps result h is = refl
-safe_look Watch true None steps result h is = absurd (true≢false (sym is ∙ ap value h.1))
-safe_look Begin true None steps result h is = safe_locking Begin steps result h is
-safe_look Resume true None steps result h is = safe_locking Resume steps result h is
+safe_look aim false node None steps result h is = refl
+safe_look Watch true node None steps result h is = absurd (true≢false (sym is ∙ ap value h.1))
+safe_look Begin true node None steps result h is = safe_locking Begin node steps result h is
+safe_look Resume true node None steps result h is = safe_locking Resume node steps result h is
 
 safe_first : (aim : RecordUse) (steps : List RecordStep) (result : Result Bool OpeningFault)
-    → IsFirstLook aim steps result → value result ≡ true → list_any is_safe steps ≡ true
+    → IsRecordLook aim steps result → value result ≡ true → list_any is_safe steps ≡ true
 safe_first aim (step.Look (Err fault) ∷ steps) result h is =
     absurd (true≢false (sym is ∙ ap value h.1))
-safe_first aim (step.Look (Ok found) ∷ steps) result h is = safe_look aim found.is_regular
+safe_first aim (step.Look (Ok found) ∷ steps) result h is =
+    safe_look aim found.is_regular found.node
     (refusal_of aim found.is_regular found.length) steps result h is
 safe_first aim steps result h is = absurd h
 
@@ -302,7 +337,7 @@ record_order = record {
   begins_unread = λ steps result h. (opening Begin steps result h).3;
   only_watched = watching;
   opened_once = λ aim steps result h. (opening aim steps result h).1;
-  only_last_fails = λ aim steps result h. (opening aim steps result h).2;
+  stops = λ aim steps result h. (opening aim steps result h).2;
   safe = λ aim steps result h is. safe aim steps result h (ap value is);
 }
 
@@ -310,6 +345,6 @@ pub take_over_order : TakeOverLaw
 take_over_order = record {
   read_behind_look = λ steps result h. (taking steps result h).0;
   not_opened = λ steps result h. (taking steps result h).1;
-  only_last_fails = λ steps result h. (taking steps result h).2;
+  stops = λ steps result h. (taking steps result h).2;
   taken_with_lock = λ steps result h is. safe_taking steps result h (ap value is);
 }

@@ -2,7 +2,7 @@
 use Rattle.std.specs.Prelude.{◌≡◌, ◌⊎◌, ⊤, ℕ, Bool, true, false, is_some, List, [], ◌∷◌, Result}
 use Rattle.std.specs.Prelude.{Ok, Err}
 use Rattle.arrayvec.specs.declared.array_string.ArrayString.{ArrayString}
-use Rattle.night_files.specs.CidLocks.{IsCidLock, hindrance, is_own}
+use Rattle.night_files.specs.CidLocks.{IsCidLock, hindrance, is_own_folder}
 use Rattle.night_files.specs.LockPaths.{lock_path}
 use Rattle.night_files.specs.declared.cid_lock.CidLockStep.{CidLockStep}
 use Rattle.night_files.specs.declared.cid_lock.CidLockStep.TheVariants as step
@@ -17,38 +17,39 @@ abbrev pub AreInOwnFolder : List ℕ → ℕ → List CidLockStep → Type 0
 AreInOwnFolder cid user [] = ⊤
 AreInOwnFolder cid user (step.User (Ok found) ∷ steps) = AreInOwnFolder cid found steps
 AreInOwnFolder cid user (step.Look folder found ∷ step.Open path answer ∷ steps) =
-    (is_own found user ≡ true) × (path.bytes ≡ lock_path folder.bytes cid)
+    (is_own_folder found user ≡ true) × (path.bytes ≡ lock_path folder.bytes cid)
     × AreInOwnFolder cid user steps
 AreInOwnFolder cid user (step.Open path answer ∷ steps) = ⊥
 AreInOwnFolder cid user (other ∷ steps) = AreInOwnFolder cid user steps
 
 -- what is answered by the lock of the file at a path
-abbrev pub lock_answer : ArrayString 512 → FileLock → Result Bool LockFault
-lock_answer path Ours = Ok true
-lock_answer path Theirs = Err (Held path)
-lock_answer path Missing = Ok false
+abbrev pub file_lock_answer : ArrayString 512 → FileLock → Result Bool LockFault
+file_lock_answer path Ours = Ok true
+file_lock_answer path Theirs = Err (Held path)
+file_lock_answer path Missing = Ok false
 
 -- the answer is that of the lock of the file that was opened; where no lock was asked for, there is
 -- none, or memory is out
 abbrev pub IsAnswered : Result Bool LockFault → List CidLockStep → Type 0
 IsAnswered result [] = (result ≡ Ok false) ⊎ (result ≡ Err Memory)
 IsAnswered result (step.Open path (Ok opened) ∷ step.Lock lock ∷ steps) =
-    result ≡ lock_answer path lock
+    result ≡ file_lock_answer path lock
 IsAnswered result (other ∷ steps) = IsAnswered result steps
 
 -- the system did not do a step, other than to make a folder that is there
-abbrev pub fails : CidLockStep → Bool
-fails (step.User (Err fault)) = true
-fails step.LongVariable = true
-fails (step.NoVariable fault) = true
-fails (step.Make path made) = is_some (hindrance made)
-fails (step.Open path (Err fault)) = true
-fails other = false
+abbrev pub lock_step_fails : CidLockStep → Bool
+lock_step_fails (step.User (Err fault)) = true
+lock_step_fails step.LongVariable = true
+lock_step_fails (step.NoVariable fault) = true
+lock_step_fails (step.Make path made) = is_some (hindrance made)
+lock_step_fails (step.Open path (Err fault)) = true
+lock_step_fails other = false
 
 -- nothing is done behind a step that failed
-abbrev pub OnlyLastFails : List CidLockStep → Type 0
-OnlyLastFails (step ∷ next ∷ steps) = (fails step ≡ false) × OnlyLastFails (next ∷ steps)
-OnlyLastFails steps = ⊤
+abbrev pub StopsWithoutLock : List CidLockStep → Type 0
+StopsWithoutLock (step ∷ next ∷ steps) =
+    (lock_step_fails step ≡ false) × StopsWithoutLock (next ∷ steps)
+StopsWithoutLock steps = ⊤
 
 -- WHEREVER THE LOCK OF A CID IS ASKED FOR. The only file that is opened is that of the lock of this
 -- CID, in a folder that was just found to be the user's own. The answer is that of this file's
@@ -59,5 +60,5 @@ pub record CidLockLaw : Type 0 where
       → AreInOwnFolder cid before steps
   pub answered : (cid : List ℕ) (steps : List CidLockStep) (result : Result Bool LockFault)
       → IsCidLock cid steps result → IsAnswered result steps
-  pub only_last_fails : (cid : List ℕ) (steps : List CidLockStep)
-      (result : Result Bool LockFault) → IsCidLock cid steps result → OnlyLastFails steps
+  pub stops : (cid : List ℕ) (steps : List CidLockStep)
+      (result : Result Bool LockFault) → IsCidLock cid steps result → StopsWithoutLock steps

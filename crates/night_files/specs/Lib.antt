@@ -1,5 +1,8 @@
 pub mod CidLockLaws
 pub mod CidLocks
+pub mod FileFaults
+pub mod FileNodes
+pub mod LockHolders
 pub mod LockLists
 pub mod LockPaths
 pub mod LockSteps

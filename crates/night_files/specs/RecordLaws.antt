@@ -2,6 +2,7 @@
 use Rattle.std.specs.Prelude.{◌≡◌, Bool, true, false, not, ◌&&◌, ◌||◌, ⊤, List, [], ◌∷◌}
 use Rattle.std.specs.Prelude.{Result, Ok, Err}
 use Rattle.std.specs.List.{list_any}
+use Rattle.night_files.specs.FileNodes.{is_same_file}
 use Rattle.night_files.specs.RecordOpenings.{IsRecordOpening, IsTakeOver}
 use Rattle.night_files.specs.RecordUses.{access_to}
 use Rattle.night_files.specs.declared.lock_request.FileLock.{FileLock}
@@ -36,20 +37,26 @@ is_free Theirs = false
 is_free lock = true
 
 -- the system did not do a step, or another process has the lock
-abbrev pub fails : RecordStep → Bool
-fails (step.Open access (Err fault)) = true
-fails (step.Look (Err fault)) = true
-fails (step.Lock lock) = not (is_free lock)
-fails (step.LockAtOnce lock) = not (is_free lock)
-fails (step.LookAgain (Err fault)) = true
-fails (step.Pause (Err fault)) = true
-fails (step.Read (Err fault)) = true
-fails other = false
+abbrev pub record_step_fails : RecordStep → Bool
+record_step_fails (step.Open access (Err fault)) = true
+record_step_fails (step.Look (Err fault)) = true
+record_step_fails (step.Lock lock) = not (is_free lock)
+record_step_fails (step.LockAtOnce lock) = not (is_free lock)
+record_step_fails (step.LookAgain (Err fault)) = true
+record_step_fails (step.Pause (Err fault)) = true
+record_step_fails (step.Read (Err fault)) = true
+record_step_fails other = false
 
--- nothing is done behind a step that failed
-abbrev pub OnlyLastFails : List RecordStep → Type 0
-OnlyLastFails (step ∷ next ∷ steps) = (fails step ≡ false) × OnlyLastFails (next ∷ steps)
-OnlyLastFails steps = ⊤
+-- behind a lock that another process has, it may be looked which one that is
+abbrev pub may_follow : RecordStep → RecordStep → Bool
+may_follow (step.Lock Theirs) (step.Listed node process) = true
+may_follow each next = not (record_step_fails each)
+
+-- nothing else is done behind a step that failed
+abbrev pub StopsAtFailure : List RecordStep → Type 0
+StopsAtFailure (step ∷ next ∷ steps) =
+    (may_follow step next ≡ true) × StopsAtFailure (next ∷ steps)
+StopsAtFailure steps = ⊤
 
 -- the file is read only behind a look that found that its name still leads to it, and that look
 -- comes behind its lock, which another process did not have
@@ -59,8 +66,8 @@ AreReadBehindLook is_locked is_found (step.Lock lock ∷ steps) =
     AreReadBehindLook (is_free lock) false steps
 AreReadBehindLook is_locked is_found (step.LockAtOnce lock ∷ steps) =
     AreReadBehindLook (is_free lock) false steps
-AreReadBehindLook is_locked is_found (step.LookAgain (Ok named) ∷ steps) =
-    AreReadBehindLook is_locked (is_locked && named.is_named) steps
+AreReadBehindLook is_locked is_found (step.LookAgain (Ok again) ∷ steps) =
+    AreReadBehindLook is_locked (is_locked && is_same_file again.named again.found.node) steps
 AreReadBehindLook is_locked is_found (step.Pause answer ∷ steps) =
     (is_found ≡ true) × AreReadBehindLook is_locked is_found steps
 AreReadBehindLook is_locked is_found (step.Read answer ∷ steps) =
@@ -83,8 +90,8 @@ is_safe other = false
 
 -- EVERY OPENING OF A RECORD'S FILE. It is read only behind a look that comes behind its lock. A
 -- night that begins reads nothing; a file that is watched is neither locked nor read. It is opened
--- once, and not removed. Nothing is done behind a step that failed. The answer that no other night
--- can be kept in it is given only where that is so
+-- once, and not removed. Nothing is done behind a step that failed, but to find who has the lock.
+-- The answer that no other night can be kept in it is given only where that is so
 pub record RecordOpeningLaw : Type 0 where
   pub read_behind_look : (aim : RecordUse) (steps : List RecordStep)
       (result : Result Bool OpeningFault) → IsRecordOpening aim steps result
@@ -97,9 +104,9 @@ pub record RecordOpeningLaw : Type 0 where
   pub opened_once : (aim : RecordUse) (steps : List RecordStep)
       (result : Result Bool OpeningFault) → IsRecordOpening aim steps result
       → IsOpenedOnce aim steps
-  pub only_last_fails : (aim : RecordUse) (steps : List RecordStep)
+  pub stops : (aim : RecordUse) (steps : List RecordStep)
       (result : Result Bool OpeningFault) → IsRecordOpening aim steps result
-      → OnlyLastFails steps
+      → StopsAtFailure steps
   pub safe : (aim : RecordUse) (steps : List RecordStep)
       (result : Result Bool OpeningFault) → IsRecordOpening aim steps result
       → result ≡ Ok true → list_any is_safe steps ≡ true
@@ -112,7 +119,7 @@ pub record TakeOverLaw : Type 0 where
       → IsTakeOver steps result → AreReadBehindLook false false steps
   pub not_opened : (steps : List RecordStep) (result : Result Bool OpeningFault)
       → IsTakeOver steps result → list_any opens_or_removes steps ≡ false
-  pub only_last_fails : (steps : List RecordStep) (result : Result Bool OpeningFault)
-      → IsTakeOver steps result → OnlyLastFails steps
+  pub stops : (steps : List RecordStep) (result : Result Bool OpeningFault)
+      → IsTakeOver steps result → StopsAtFailure steps
   pub taken_with_lock : (steps : List RecordStep) (result : Result Bool OpeningFault)
       → IsTakeOver steps result → result ≡ Ok true → list_any is_safe steps ≡ true

@@ -1,8 +1,10 @@
 -- Which files a record is kept in.
-use Rattle.std.specs.Prelude.{ℕ, Bool, true, false, nat_eq, Option, Some, None, Result, Ok, Err}
-use Rattle.std.specs.Prelude.{if◌then◌else◌}
+use Rattle.std.specs.Prelude.{ℕ, Bool, true, false, nat_eq, nat_lt, Option, Some, None}
+use Rattle.std.specs.Prelude.{Result, Ok, Err, if◌then◌else◌}
 use Rattle.night_files.specs.declared.lock_request.FileLock.{FileLock}
 use Rattle.night_files.specs.declared.lock_request.FileLock.TheVariants.{Missing, Ours, Theirs}
+use Rattle.night_files.specs.declared.record_opening.FileFault.{FileFault}
+use Rattle.night_files.specs.declared.record_opening.FoundFile.{FoundFile}
 use Rattle.night_files.specs.declared.record_use.FileAccess.{FileAccess}
 use Rattle.night_files.specs.declared.record_use.RecordRefusal.{RecordRefusal}
 use Rattle.night_files.specs.declared.record_use.RecordRefusal.TheVariants as refusal
@@ -36,12 +38,6 @@ abbrev pub refusal_once_locked : RecordUse → Bool → Bool → ℕ → Option 
 refusal_once_locked aim is_named is_regular length =
     if is_named then refusal_of aim is_regular length else Some refusal.OtherName
 
--- to begin or to go on: whether the file is locked; where the file system has no locks it is not
-abbrev pub lock_to_open : FileLock → Result Bool RecordRefusal
-lock_to_open Ours = Ok true
-lock_to_open Theirs = Err refusal.InUse
-lock_to_open Missing = Ok false
-
 -- to take a night over: whether it is taken; without locks no night is
 abbrev pub lock_to_take_over : FileLock → Result Bool RecordRefusal
 lock_to_take_over Ours = Ok true
@@ -52,3 +48,17 @@ lock_to_take_over Missing = Err refusal.NoLocks
 abbrev pub is_unused : FileLock → Option ℕ → Bool
 is_unused Ours (Some length) = nat_eq length 0
 is_unused lock length = false
+
+-- what a night opens its file for
+abbrev pub use_of_night : Bool → RecordUse
+use_of_night resumes = if resumes then Resume else Begin
+
+-- how many bytes stand in what a record is kept in: none in a FIFO or a device, and none where the
+-- system does not say
+abbrev pub kept_length : Result FoundFile FileFault → ℕ
+kept_length (Ok found) = if found.is_regular then found.length else 0
+kept_length (Err fault) = 0
+
+-- a file is cut to what is kept of it, where it is longer
+abbrev pub is_cut_due : ℕ → ℕ → Bool
+is_cut_due length kept = nat_lt kept length

@@ -1,8 +1,9 @@
 ghost use Rattle.std.specs.Prelude.{◌≡◌, List, [], ◌∷◌, ◌++◌, IfErr, OnOk, Ok, Err};
 ghost use Rattle.night_files.specs.CidLockLaws.{CidLockLaw};
 ghost use Rattle.night_files.specs.CidLocks.{IsCidLock, IsFileOpening, IsFolderChoice};
-ghost use Rattle.night_files.specs.CidLocks.{IsFolderLook, IsFolderMaking, IsLockAnswer};
-ghost use Rattle.night_files.specs.CidLocks.{answer_of, hindrance, is_own, lock_answer, variable_step};
+ghost use Rattle.night_files.specs.CidLocks.{IsFolderLook, IsFolderMaking, LeadToLock};
+ghost use Rattle.night_files.specs.CidLocks.{failure_answer, hindrance, is_own_folder, lock_answer};
+ghost use Rattle.night_files.specs.CidLocks.{variable_step};
 ghost use Rattle.night_files.specs.declared.cid_lock.CidLockStep.{CidLockStep as StepOf};
 ghost use Rattle.night_files.specs.declared.cid_lock.CidLockStep.TheVariants as step;
 
@@ -31,7 +32,7 @@ pub struct FoundFolder {
 
 impl FoundFolder {
     fn is_own(found: Option<FoundFolder>, user: u32) -> bool
-        ensures { result ≡ is_own found user }
+        ensures { result ≡ is_own_folder found user }
     {
         match found {
             Some(found) => found.is_folder && found.owner == user,
@@ -139,19 +140,26 @@ pub fn take_cid_lock<S: CidLockSystem>(
     cid: [u8; 16],
 ) -> Result<Option<S::File>, LockFault>
     ensures told { S.tells system.new → S.tells system.old }
-    ensures steps { S.tells system.new → (steps : List StepOf)
-        × IsCidLock cid steps (lock_answer result)
-        × (S.steps system.new ≡ S.steps system.old ++ steps) }
+    ensures steps { S.tells system.new → LeadToLock (IsCidLock cid)
+        (S.steps system.old) (S.steps system.new) (lock_answer result) }
 {
     match system.user() {
-        Ok(user) => choose_folder(system, alloc, cid, user),
+        Ok(user) => choose_folder(system, &UserLock { alloc, cid, user }),
         Err(fault) => without_lock(fault),
     }
 }
 
+// The lock of a CID for a user.
+#[derive(Clone, Copy)]
+struct UserLock {
+    alloc: Global,
+    cid: [u8; 16],
+    user: u32,
+}
+
 // What is answered where a step fails: without memory nothing goes on, but without a lock it does.
 fn without_lock<F: Drop>(fault: FileFault) -> Result<Option<F>, LockFault>
-    ensures { lock_answer result ≡ answer_of fault }
+    ensures { lock_answer result ≡ failure_answer fault }
 {
     match fault {
         FileFault::System(_) => Ok(None),
@@ -161,23 +169,25 @@ fn without_lock<F: Drop>(fault: FileFault) -> Result<Option<F>, LockFault>
 
 fn choose_folder<S: CidLockSystem>(
     system: &mut S,
-    alloc: Global,
-    cid: [u8; 16],
-    user: u32,
+    lock: &UserLock,
 ) -> Result<Option<S::File>, LockFault>
     ensures told { S.tells system.new → S.tells system.old }
-    ensures steps { S.tells system.new → (steps : List StepOf)
-        × IsFolderChoice cid user steps (lock_answer result)
-        × (S.steps system.new ≡ S.steps system.old ++ steps) }
+    ensures steps { S.tells system.new → LeadToLock
+        (IsFolderChoice lock.now.cid lock.now.user)
+        (S.steps system.old) (S.steps system.new) (lock_answer result) }
 {
-    let runtime = system.look(&runtime_folder(user));
+    let runtime = system.look(&runtime_folder(lock.user));
     let named = match system.runtime_variable() {
         Ok(Some(named)) => named,
         Ok(None) => return Ok(None),
         Err(fault) => return without_lock(fault),
     };
-    match lock_folder(named.as_str(), FoundFolder::is_own(runtime, user), user) {
-        Some(folder) => make_folder(system, alloc, cid, user, &folder),
+    match lock_folder(
+        named.as_str(),
+        FoundFolder::is_own(runtime, lock.user),
+        lock.user,
+    ) {
+        Some(folder) => make_folder(system, lock, &folder),
         None => Ok(None),
     }
 }
@@ -185,19 +195,17 @@ fn choose_folder<S: CidLockSystem>(
 // Makes the folder, unless it is there.
 fn make_folder<S: CidLockSystem>(
     system: &mut S,
-    alloc: Global,
-    cid: [u8; 16],
-    user: u32,
+    lock: &UserLock,
     folder: &PathText,
 ) -> Result<Option<S::File>, LockFault>
     ensures told { S.tells system.new → S.tells system.old }
-    ensures steps { S.tells system.new → (steps : List StepOf)
-        × IsFolderMaking cid user folder.now.bytes steps (lock_answer result)
-        × (S.steps system.new ≡ S.steps system.old ++ steps) }
+    ensures steps { S.tells system.new → LeadToLock
+        (IsFolderMaking lock.now.cid lock.now.user folder.now.bytes)
+        (S.steps system.old) (S.steps system.new) (lock_answer result) }
 {
     match hindrance(system.make_folder(folder)) {
         Some(fault) => without_lock(fault),
-        None => look_at_folder(system, alloc, cid, user, folder),
+        None => look_at_folder(system, lock, folder),
     }
 }
 
@@ -214,20 +222,18 @@ fn hindrance(made: Result<(), FileFault>) -> Option<FileFault>
 // Opens the file of the lock in the folder, if that is the user's own.
 fn look_at_folder<S: CidLockSystem>(
     system: &mut S,
-    alloc: Global,
-    cid: [u8; 16],
-    user: u32,
+    lock: &UserLock,
     folder: &PathText,
 ) -> Result<Option<S::File>, LockFault>
     ensures told { S.tells system.new → S.tells system.old }
-    ensures steps { S.tells system.new → (steps : List StepOf)
-        × IsFolderLook cid user folder.now.bytes steps (lock_answer result)
-        × (S.steps system.new ≡ S.steps system.old ++ steps) }
+    ensures steps { S.tells system.new → LeadToLock
+        (IsFolderLook lock.now.cid lock.now.user folder.now.bytes)
+        (S.steps system.old) (S.steps system.new) (lock_answer result) }
 {
-    if !FoundFolder::is_own(system.look(folder), user) {
+    if !FoundFolder::is_own(system.look(folder), lock.user) {
         return Ok(None);
     }
-    match lock_path(alloc, folder, cid) {
+    match lock_path(lock.alloc, folder, lock.cid) {
         Ok(Some(path)) => open_file(system, &path),
         Ok(None) => Ok(None),
         Err(_) => Err(LockFault::Memory),
@@ -239,9 +245,8 @@ fn open_file<S: CidLockSystem>(
     path: &PathText,
 ) -> Result<Option<S::File>, LockFault>
     ensures told { S.tells system.new → S.tells system.old }
-    ensures steps { S.tells system.new → (steps : List StepOf)
-        × IsFileOpening path.now.bytes steps (lock_answer result)
-        × (S.steps system.new ≡ S.steps system.old ++ steps) }
+    ensures steps { S.tells system.new → LeadToLock (IsFileOpening path.now.bytes)
+        (S.steps system.old) (S.steps system.new) (lock_answer result) }
 {
     let file = match system.open(path) {
         Ok(file) => file,

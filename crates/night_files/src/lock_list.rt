@@ -5,23 +5,38 @@ ghost use Rattle.night_files.specs.LockLists.{descriptor_in, hex_text, is_lock_o
 ghost use Rattle.night_files.specs.LockLists.{major_number, minor_number, node_text};
 ghost use Rattle.night_files.specs.LockLists.{process_in, word_at};
 
+use crate::file_node::FileNode;
 use ascii_text::{Lines, Words, number};
 use std::alloc::{AllocError, Global};
 
-/// How the system's list of locks names the file of this number on a device, as `fe:00:5325926`.
+/// The process that locked a file, by the system's list of locks, where the list names it.
 ///
 /// # Errors
 ///
 /// If an allocation failed.
-pub fn node_text(alloc: Global, device: u64, inode: u64) -> Result<String, AllocError>
+pub fn process_in_list(
+    alloc: Global,
+    list: &[u8],
+    node: FileNode,
+) -> Result<Option<u32>, AllocError>
+    requires { length list.now < 2 ^ 32 }
+    ensures { IfOk result (λ process. process
+        ≡ locking_process (node_text node.device node.inode) list.now) }
+{
+    let name = node_text(alloc, node.device, node.inode)?;
+    Ok(locking_process(list, name.as_str()))
+}
+
+// How the list names the file of this number on a device, as `fe:00:5325926`.
+fn node_text(alloc: Global, device: u64, inode: u64) -> Result<String, AllocError>
     ensures { IfOk result (λ text. string_bytes text ≡ node_text device inode) }
 {
     let major = hex_text(alloc, major_number(device))?;
     let minor = hex_text(alloc, minor_number(device))?;
-    joined(alloc, major.as_str(), minor.as_str(), inode)
+    node_of_parts(alloc, major.as_str(), minor.as_str(), inode)
 }
 
-fn joined(alloc: Global, major: &str, minor: &str, inode: u64) -> Result<String, AllocError>
+fn node_of_parts(alloc: Global, major: &str, minor: &str, inode: u64) -> Result<String, AllocError>
     ensures { IfOk result (λ text. string_bytes text
         ≡ major.now ++ codes ":" ++ minor.now ++ codes ":" ++ decimal inode) }
 {
@@ -50,9 +65,8 @@ fn hex_text(alloc: Global, number: u32) -> Result<String, AllocError>
     }
 }
 
-/// The process that locked a file, by the system's list of locks, where the list names it. A line
-/// of the list is as `1: FLOCK  ADVISORY  WRITE 1921 fe:00:5325926 0 EOF`.
-pub fn locking_process(list: &[u8], node: &str) -> Option<u32>
+// A line of the list is as `1: FLOCK  ADVISORY  WRITE 1921 fe:00:5325926 0 EOF`.
+fn locking_process(list: &[u8], node: &str) -> Option<u32>
     requires { length list.now < 2 ^ 32 }
     ensures { result ≡ locking_process node.now list.now }
 {
@@ -93,9 +107,8 @@ fn skip_word(words: &mut Words)
     let _ = words.next();
 }
 
-/// The number of the descriptor that a name spells, as `/dev/fd/3`; there is none where it spells
-/// none.
-pub fn descriptor_in(name: &[u8]) -> Option<u32>
+// The number of the descriptor that a name spells, as `/dev/fd/3`.
+pub(crate) fn descriptor_in(name: &[u8]) -> Option<u32>
     ensures { result ≡ descriptor_in name.now }
 {
     if name.len() < 8 {

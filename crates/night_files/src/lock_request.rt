@@ -1,7 +1,9 @@
 ghost use Rattle.std.specs.Prelude.{◌≡◌, List, [], ◌∷◌, ◌++◌};
-ghost use Rattle.night_files.specs.LockSteps.{AreLockSteps, waits_for_lock};
+ghost use Rattle.night_files.specs.LockSteps.{AreLockSteps, requested_lock, waits_for_lock};
 ghost use Rattle.night_files.specs.declared.lock_request.LockStep.{LockStep as StepOf};
 ghost use Rattle.night_files.specs.declared.lock_request.LockStep.TheVariants.{Ask, Sleep};
+
+use std::io::ErrorKind;
 
 // A console that ended, or that was ended, has let its lock go within so many times.
 const MOST_TIMES: u32 = 100;
@@ -18,6 +20,23 @@ pub enum FileLock {
     Theirs,
     /// The file system has none.
     Missing,
+}
+
+impl FileLock {
+    /// What it means how the system answers the request for a lock: that it is given, or else this
+    /// reason. A request that a signal interrupts counts as one for a lock that another process
+    /// holds, so that it is made again.
+    pub fn of_request(is_given: bool, reason: ErrorKind) -> Self
+        ensures { result ≡ requested_lock is_given reason }
+    {
+        if is_given {
+            return FileLock::Ours;
+        }
+        match reason {
+            ErrorKind::WouldBlock | ErrorKind::Interrupted => FileLock::Theirs,
+            _ => FileLock::Missing,
+        }
+    }
 }
 
 /// A step towards a lock.

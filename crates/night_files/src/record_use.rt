@@ -1,9 +1,10 @@
 ghost use Rattle.std.specs.Prelude.{◌≡◌};
-ghost use Rattle.night_files.specs.RecordUses.{access_to, is_unused, lock_to_open};
+ghost use Rattle.night_files.specs.RecordUses.{access_to, is_cut_due, is_unused, kept_length};
 ghost use Rattle.night_files.specs.RecordUses.{lock_to_take_over, refusal_of};
-ghost use Rattle.night_files.specs.RecordUses.{refusal_once_locked};
+ghost use Rattle.night_files.specs.RecordUses.{refusal_once_locked, use_of_night};
 
 use crate::lock_request::FileLock;
+use crate::record_opening::{FileFault, FoundFile};
 
 /// What a record's file is opened for.
 #[derive(Clone, Copy, Debug, PartialEq, Eq)]
@@ -34,8 +35,8 @@ pub enum RecordRefusal {
     NotEmpty,
     /// It is no regular file.
     NoFile,
-    /// Another process holds its lock.
-    InUse,
+    /// Another process holds its lock: this one, where that is known.
+    InUse(Option<u32>),
     /// The file system has no locks.
     NoLocks,
     /// Its name leads to another file, or to none, by now.
@@ -43,6 +44,17 @@ pub enum RecordRefusal {
 }
 
 impl RecordUse {
+    /// What a night opens its file for, by whether it goes on in it.
+    pub fn of_night(resumes: bool) -> Self
+        ensures { result ≡ use_of_night resumes }
+    {
+        if resumes {
+            RecordUse::Resume
+        } else {
+            RecordUse::Begin
+        }
+    }
+
     /// How the file is opened, by whether its name leads to a FIFO.
     pub fn access_to(self, is_fifo: bool) -> FileAccess
         ensures { result ≡ access_to self is_fifo }
@@ -84,21 +96,6 @@ impl RecordUse {
     }
 }
 
-/// Whether the file is locked in which a night begins or goes on, by what its lock answered.
-///
-/// # Errors
-///
-/// `InUse` where another process holds the lock.
-pub fn lock_to_open(lock: FileLock) -> Result<bool, RecordRefusal>
-    ensures { result ≡ lock_to_open lock }
-{
-    match lock {
-        FileLock::Ours => Ok(true),
-        FileLock::Theirs => Err(RecordRefusal::InUse),
-        FileLock::Missing => Ok(false),
-    }
-}
-
 /// Whether a night that was watched is taken over, by what the lock of its file answered.
 ///
 /// # Errors
@@ -120,4 +117,22 @@ pub fn is_unused(lock: FileLock, length: Option<u64>) -> bool
     ensures { result ≡ is_unused lock length }
 {
     lock == FileLock::Ours && length == Some(0)
+}
+
+/// How many bytes stand in what a record is kept in; 0 in a FIFO or a device, and where the system
+/// does not say.
+pub fn kept_length(found: Result<FoundFile, FileFault>) -> u64
+    ensures { result ≡ kept_length found }
+{
+    match found {
+        Ok(found) if found.is_regular => found.length,
+        _ => 0,
+    }
+}
+
+/// Whether a record's file, of so many bytes, is cut to those that are kept of it.
+pub fn is_cut_due(length: u64, kept: u64) -> bool
+    ensures { result ≡ is_cut_due length kept }
+{
+    kept < length
 }

@@ -52,15 +52,6 @@ abbrev pub of_cid_lock : List ℕ → List ℕ
 of_cid_lock file = remark_of
     (codes "another console on this machine sends under this CID, by " ∷ file ∷ [])
 
--- a night that is to begin in a file where something stands
-abbrev pub full_record : List ℕ
-full_record = codes "the record's file is not empty: --resume goes on with it"
-
--- and one whose record nothing locks, where a spare may follow it
-abbrev pub record_without_lock : List ℕ
-record_without_lock =
-    codes "no lock can be made on the record: a spare could not tell who plays"
-
 -- a watch
 abbrev pub of_watch : RunFault → Option ErrorKind → List ℕ
 of_watch (run.Line line) output = remark_of (watch_rule ∷ [])

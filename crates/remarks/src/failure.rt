@@ -3,7 +3,7 @@ ghost use Rattle.cmd_faults.specs.Runs as runs;
 ghost use Rattle.cmd_faults.specs.declared.fault.RunFault.TheVariants as run;
 ghost use Rattle.remarks.specs.Remarks.{of_device, remark_of};
 ghost use Rattle.remarks.specs.Failures.{Fails, of_cid_lock, of_night, of_rehearsal, of_run};
-ghost use Rattle.remarks.specs.Failures.{full_record, of_standard, of_watch, record_without_lock};
+ghost use Rattle.remarks.specs.Failures.{of_standard, of_watch};
 ghost use Rattle.remarks.specs.declared.failure.JobFault.TheVariants as job;
 
 use crate::refusal::Refusal;
@@ -45,20 +45,6 @@ impl Failure {
             fault: RunFault::Device,
             remark: of_device(name, kind),
         }
-    }
-
-    /// The file of a record that is to begin is not empty.
-    pub fn of_full_record() -> Failure
-        ensures { Fails run.Device (remark_of (full_record ∷ [])) result }
-    {
-        Failure::device("the record's file is not empty: --resume goes on with it")
-    }
-
-    /// The file system of a record that is to begin has no locks.
-    pub fn of_record_without_lock() -> Failure
-        ensures { Fails run.Device (remark_of (record_without_lock ∷ [])) result }
-    {
-        Failure::device("no lock can be made on the record: a spare could not tell who plays")
     }
 
     /// The socket of a listen failed, for the system's reason.

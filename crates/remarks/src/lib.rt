@@ -25,7 +25,7 @@ mod text_line;
 mod weight;
 
 pub use card::{DownCards, of_card, of_route};
-pub use device::{no_lock, of_lock};
+pub use device::{no_lock, of_lock, of_missing, of_record};
 pub use failure::{Failure, JobFault, LostPacket};
 pub use job_end::{JobEnd, tell_text};
 pub use listening::tell_listening;

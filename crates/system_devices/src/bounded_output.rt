@@ -1,11 +1,12 @@
 ghost use Rattle.std.specs.Prelude.{[], ⊤, false, None};
 
-use crate::descriptor_poll::DescriptorPoll;
+use crate::descriptor_poll::{DescriptorPoll, open_poll};
 use crate::fault::DeviceFault;
-use crate::way::Way;
-use line_queue::{FilePipe, LineOutput, LineQueue, Notice, Pipe, WrittenFile};
+use crate::way::{pipe_to_writer, written_file};
+use line_queue::{FilePipe, LineOutput, LineQueue, Notice, OutputWay, Pipe, WrittenFile};
 use mio::Interest;
-use std::io::{Error, ErrorKind, Result as IoResult, Write};
+use std::fs::File;
+use std::io::{ErrorKind, Result as IoResult, Write};
 use std::os::fd::AsRawFd;
 use std::thread::sleep;
 use std::time::Duration;
@@ -27,14 +28,15 @@ pub type BoundedOutput<W> = LineOutput<PolledWay<W>>;
 /// The way of an output, and the poll that says whether it takes bytes.
 #[derive(Drop)]
 pub struct PolledWay<W> {
-    way: Way<W>,
+    way: OutputWay<W, File>,
     poll: DescriptorPoll,
 }
 
 impl<W: AsRawFd + Drop> PolledWay<W> {
     fn open(rt: &HostRuntime, output: W, variable: &str) -> IoResult<Self> {
-        let way = Way::open(rt, output, variable)?;
-        let poll = DescriptorPoll::open(rt, way.as_raw_fd(), Interest::WRITABLE)?;
+        let pipe = pipe_to_writer(rt, &output, variable)?;
+        let way = OutputWay { output, pipe };
+        let poll = open_poll(rt, way.as_raw_fd(), Interest::WRITABLE)?;
         Ok(PolledWay { way, poll })
     }
 }
@@ -51,14 +53,11 @@ impl<W: Write> Pipe for PolledWay<W> {
     } };
 
     fn takes_bytes(&mut self, milliseconds: u64) -> bool {
-        self.poll.is_ready(milliseconds).unwrap_or(false)
+        self.poll.is_known_ready(milliseconds)
     }
 
     fn write(&mut self, bytes: &[u8]) -> Result<usize, ErrorKind> {
-        match self.way.write(bytes) {
-            Ok(count) => Ok(count.min(bytes.len())),
-            Err(error) => Err(error.kind()),
-        }
+        self.way.write(bytes)
     }
 }
 
@@ -68,7 +67,7 @@ impl<W: Write + AsRawFd> FilePipe for PolledWay<W> {
     ghost shows = { λ _ _. ⊤ };
 
     fn written_file(&self, rt: &HostRuntime) -> Option<WrittenFile> {
-        self.way.written_file(rt)
+        written_file(rt, self.way.piped_output()?)
     }
 
     fn wait_turn(rt: &HostRuntime) {

@@ -1,13 +1,12 @@
 ghost use Rattle.std.specs.Prelude.{[]};
 
-use crate::record_file::of_system;
 use crate::record_lock::SystemLock;
 pub use night_files::LockFault;
 use night_files::{
-    CidLockSystem, FileFault, FileLock, FoundFolder, PathText, ask_for_lock, take_cid_lock,
+    CidLockSystem, FileFault, FileLock, FoundFolder, PathText, ask_for_lock, named_folder,
+    take_cid_lock,
 };
 use std::env;
-use std::env::VarError;
 use std::fs::{File, OpenOptions, create_dir, metadata, symlink_metadata};
 use std::os::unix::fs::MetadataExt;
 
@@ -46,7 +45,7 @@ impl CidLockSystem for LockFolder<'_> {
     ghost steps = { λ _. [] };
 
     fn user(&mut self) -> Result<u32, FileFault> {
-        Ok(metadata(self.rt, "/proc/self").map_err(of_system)?.uid())
+        Ok(metadata(self.rt, "/proc/self")?.uid())
     }
 
     fn look(&mut self, path: &PathText) -> Option<FoundFolder> {
@@ -58,24 +57,21 @@ impl CidLockSystem for LockFolder<'_> {
     }
 
     fn runtime_variable(&mut self) -> Result<Option<PathText>, FileFault> {
-        match env::var(self.rt, "XDG_RUNTIME_DIR") {
-            Ok(named) => Ok(PathText::from(named.as_str()).ok()),
-            Err(VarError::OutOfMemory) => Err(FileFault::Memory),
-            Err(_) => Ok(Some(PathText::new())),
-        }
+        named_folder(env::var(self.rt, "XDG_RUNTIME_DIR"))
     }
 
     fn make_folder(&mut self, path: &PathText) -> Result<(), FileFault> {
-        create_dir(self.rt, path.as_str()).map_err(of_system)
+        Ok(create_dir(self.rt, path.as_str())?)
     }
 
     fn open(&mut self, path: &PathText) -> Result<File, FileFault> {
-        OpenOptions::new()
-            .read(true)
-            .write(true)
-            .create(true)
-            .open(self.rt, path.as_str())
-            .map_err(of_system)
+        Ok(
+            OpenOptions::new()
+                .read(true)
+                .write(true)
+                .create(true)
+                .open(self.rt, path.as_str())?,
+        )
     }
 
     fn lock(&mut self, file: &File) -> FileLock {

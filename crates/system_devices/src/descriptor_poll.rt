@@ -1,3 +1,7 @@
+ghost use Rattle.std.specs.Prelude.{[]};
+
+use crate::way::kind_of;
+use line_queue::{PollSystem, PolledDescriptor, ask_for_reports};
 use mio::unix::SourceFd;
 use mio::{Events, Interest, Poll, Token};
 use std::io::{Error, ErrorKind, Result as IoResult};
@@ -6,81 +10,71 @@ use std::time::Duration;
 
 const DESCRIPTOR: Token = Token(0);
 
-// Whether the system has to be asked if a descriptor is ready.
-#[derive(Clone, Copy, Debug, PartialEq, Eq)]
-enum Readiness {
-    // A pipe, a terminal or a socket: it is waited for.
-    Polled,
-    // A file, or the null device, is always ready.
-    Always,
-    // It ended.
-    Never,
-}
-
 /// Whether an open descriptor can be read, or written, without waiting.
+pub type DescriptorPoll = PolledDescriptor<SystemPoll>;
+
+/// The poll of a descriptor. It does not tell the steps.
 #[derive(Drop)]
-pub struct DescriptorPoll {
+pub struct SystemPoll {
     poll: Poll,
     events: Events,
     descriptor: RawFd,
     interest: Interest,
-    readiness: Readiness,
 }
 
-impl DescriptorPoll {
-    /// # Errors
-    ///
-    /// The system's, where the descriptor is closed or cannot be waited for; `OutOfMemory` if an
-    /// allocation failed.
-    pub fn open(rt: &HostRuntime, descriptor: RawFd, interest: Interest) -> IoResult<Self> {
-        let poll = Poll::new(rt)?;
-        let Ok(events) = Events::with_capacity(rt.alloc(), 1) else {
-            return Err(Error::from(ErrorKind::OutOfMemory));
-        };
-        let registered = poll
-            .registry()
-            .register(&mut SourceFd(&descriptor), DESCRIPTOR, interest);
-        let readiness = match registered {
-            Ok(()) => Readiness::Polled,
-            Err(error) if error.kind() == ErrorKind::PermissionDenied => Readiness::Always,
-            Err(error) => return Err(error),
-        };
-        Ok(DescriptorPoll {
-            poll,
-            events,
-            descriptor,
-            interest,
-            readiness,
-        })
+/// Opens the poll of an open descriptor.
+///
+/// # Errors
+///
+/// The system's, where the descriptor is closed or cannot be waited for; `OutOfMemory` if an
+/// allocation failed.
+pub fn open_poll(
+    rt: &HostRuntime,
+    descriptor: RawFd,
+    interest: Interest,
+) -> IoResult<DescriptorPoll> {
+    let poll = Poll::new(rt)?;
+    let Ok(events) = Events::with_capacity(rt.alloc(), 1) else {
+        return Err(Error::from(ErrorKind::OutOfMemory));
+    };
+    let mut system = SystemPoll {
+        poll,
+        events,
+        descriptor,
+        interest,
+    };
+    let readiness = ask_for_reports(&mut system)?;
+    Ok(PolledDescriptor { system, readiness })
+}
+
+impl PollSystem for SystemPoll {
+    ghost tells = { λ _. ⊥ };
+
+    ghost steps = { λ _. [] };
+
+    fn register(&mut self) -> Result<(), ErrorKind> {
+        let mut source = SourceFd(&self.descriptor);
+        let registry = self.poll.registry();
+        let answer = registry.register(&mut source, DESCRIPTOR, self.interest);
+        answer.map_err(kind_of)
     }
 
-    /// Whether it is ready, or becomes so within so many milliseconds. One that ended is waited for
-    /// in vain.
-    ///
-    /// # Errors
-    ///
-    /// The system's, where it cannot be waited for.
-    pub fn is_ready(&mut self, milliseconds: u64) -> IoResult<bool> {
-        match self.readiness {
-            Readiness::Always => return Ok(true),
-            Readiness::Never => {}
-            // The report is asked for anew, since a call may have left bytes or room behind.
-            Readiness::Polled => self
-                .poll
-                .registry()
-                .reregister(&mut SourceFd(&self.descriptor), DESCRIPTOR, self.interest)?,
-        }
+    fn register_again(&mut self) -> Result<(), ErrorKind> {
+        let mut source = SourceFd(&self.descriptor);
+        let registry = self.poll.registry();
+        let answer = registry.reregister(&mut source, DESCRIPTOR, self.interest);
+        answer.map_err(kind_of)
+    }
+
+    fn wait_for_report(&mut self, milliseconds: u64) -> Result<bool, ErrorKind> {
         let most = Duration::from_millis(milliseconds);
-        self.poll.poll(&mut self.events, Some(most))?;
+        let answer = self.poll.poll(&mut self.events, Some(most));
+        answer.map_err(kind_of)?;
         Ok(!self.events.is_empty())
     }
 
-    /// It ended.
-    pub fn end(&mut self) {
-        if self.readiness == Readiness::Polled {
-            let mut source = SourceFd(&self.descriptor);
-            let _ = self.poll.registry().deregister(&mut source);
-        }
-        self.readiness = Readiness::Never;
+    fn unregister(&mut self) {
+        let mut source = SourceFd(&self.descriptor);
+        let _ = self.poll.registry().deregister(&mut source);
     }
 }

@@ -24,6 +24,6 @@ pub fn open_messages(rt: &HostRuntime, is_open: bool) -> Result<Messages, Device
     if is_open {
         open_output(rt, rt.stderr(), NAMES)
     } else {
-        Ok(LineOutput::closed())
+        Ok(LineOutput::nowhere())
     }
 }

@@ -15,7 +15,7 @@ pub struct Record {
 impl Record {
     /// No record.
     pub fn none() -> Self {
-        Record::of(LineOutput::closed(), 0)
+        Record::of(LineOutput::nowhere(), 0)
     }
 
     // Lines behind so many bytes of a file.

@@ -1,9 +1,10 @@
 ghost use Rattle.std.specs.Prelude.{[]};
 
 use crate::record_file::RecordFile;
-use night_files::{FileLock, LockRequest, ask_for_lock, descriptor_in};
+use night_files::{FileLock, FileNode, LockRequest, lock_descriptor, unused_record};
 use std::env;
 use std::fs::{File, Metadata, metadata};
+use std::io::Error;
 use std::os::fd::{AsRawFd, RawFd};
 use std::os::unix::fs::MetadataExt;
 use std::thread::sleep;
@@ -31,12 +32,17 @@ impl<'a> SystemLock<'a> {
         SystemLock { rt, descriptor }
     }
 
-    // The lock of a record's file.
-    fn of_record(rt: &'a HostRuntime, file: &File) -> Self {
-        match shared_descriptor(rt, file) {
-            Some(descriptor) => SystemLock { rt, descriptor },
-            None => SystemLock::of(rt, file),
-        }
+    /// The lock of a record's file, by the descriptor that is shared with its writer, if one is.
+    pub fn of_record(rt: &'a HostRuntime, file: &File) -> Self {
+        let Ok(name) = env::var(rt, SHARED) else {
+            return SystemLock::of(rt, file);
+        };
+        let own = file.metadata().ok().map(|found| node_of(&found));
+        let named = metadata(rt, name.as_str())
+            .ok()
+            .map(|found| node_of(&found));
+        let descriptor = lock_descriptor(file.as_raw_fd(), own, named, name.as_str());
+        SystemLock { rt, descriptor }
     }
 }
 
@@ -46,13 +52,9 @@ impl LockRequest for SystemLock<'_> {
     ghost steps = { λ _. [] };
 
     fn ask(&mut self) -> FileLock {
-        if libc::flock(self.descriptor, libc::LOCK_EX | libc::LOCK_NB) == 0 {
-            return FileLock::Ours;
-        }
-        match os::errno() {
-            libc::EAGAIN | libc::EINTR => FileLock::Theirs,
-            _ => FileLock::Missing,
-        }
+        let answer = libc::flock(self.descriptor, libc::LOCK_EX | libc::LOCK_NB);
+        let reason = Error::from_raw_os_error(os::errno()).kind();
+        FileLock::of_request(answer == 0, reason)
     }
 
     fn sleep(&mut self, milliseconds: u64) {
@@ -60,39 +62,24 @@ impl LockRequest for SystemLock<'_> {
     }
 }
 
-/// Locks a record's file, within a second: what a night that was killed left behind is written
-/// within it, unless the disk stalls.
-pub fn lock(rt: &HostRuntime, file: &File) -> FileLock {
-    ask_for_lock(&mut SystemLock::of_record(rt, file))
-}
-
-/// Locks a record's file, unless it is held.
-pub fn lock_at_once(rt: &HostRuntime, file: &File) -> FileLock {
-    SystemLock::of_record(rt, file).ask()
-}
-
 /// Removes the file of a record if no night began in it: the one of this name, or the one that was
 /// made before this program was started.
-pub fn remove_unused_record(rt: &HostRuntime, made: Option<&str>) {
-    let named = env::var(rt, MADE).ok();
-    if let Some(name) = made.or(named.as_deref()) {
+pub fn remove_unused_record(rt: &HostRuntime, given: Option<&str>) {
+    let made = env::var(rt, MADE).ok();
+    if let Some(name) = unused_record(given, made.as_deref()) {
         RecordFile::remove_if_unused(rt, name);
+    }
+}
+
+/// Which file it is.
+pub fn node_of(found: &Metadata) -> FileNode {
+    FileNode {
+        device: found.dev(),
+        inode: found.ino(),
     }
 }
 
 /// Whether two names or descriptors lead to one file.
 pub fn is_same(left: &Metadata, right: &Metadata) -> bool {
-    left.dev() == right.dev() && left.ino() == right.ino()
-}
-
-// The descriptor that is shared with the writer of this file, where there is one.
-fn shared_descriptor(rt: &HostRuntime, file: &File) -> Option<RawFd> {
-    let name = env::var(rt, SHARED).ok()?;
-    let found = metadata(rt, name.as_str()).ok()?;
-    let own = file.metadata().ok()?;
-    if is_same(&found, &own) {
-        RawFd::try_from(descriptor_in(name.as_str().as_bytes())?).ok()
-    } else {
-        None
-    }
+    node_of(left).is_same(node_of(right))
 }

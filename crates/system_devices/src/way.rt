@@ -2,82 +2,30 @@ ghost use Rattle.std.specs.Prelude.{[]};
 
 use arrayvec::ArrayString;
 use line_queue::{PipeVariable, WaySystem, WrittenFile, open_way};
-use std::env::{self, VarError};
+use std::env;
 use std::fmt::Write as _;
 use std::fs::{File, Metadata, OpenOptions, metadata};
-use std::io::{Error, ErrorKind, Result as IoResult, Write};
-use std::os::fd::{AsRawFd, RawFd};
+use std::io::{Error, ErrorKind, Result as IoResult};
+use std::os::fd::AsRawFd;
 use std::os::unix::fs::MetadataExt;
 
-/// The way of an output's bytes: into the output itself, or, where that is a file, through a pipe
-/// to a process that writes it, and may wait for the disk.
-#[derive(Drop)]
-pub struct Way<W> {
-    output: W,
-    pipe: Option<File>,
+/// What the system knows of the file of an output.
+pub fn written_file<W: AsRawFd>(rt: &HostRuntime, output: &W) -> Option<WrittenFile> {
+    let file = metadata_of(rt, output).ok()?;
+    Some(WrittenFile {
+        device: file.dev(),
+        number: file.ino(),
+        length: file.len(),
+    })
 }
 
-impl<W: AsRawFd + Drop> Way<W> {
-    /// Opens the way of an output: by the pipe that this variable of the environment names, where
-    /// it names one and the output is a regular file.
-    ///
-    /// # Errors
-    ///
-    /// The system's, where the pipe cannot be opened; `OutOfMemory` if an allocation failed.
-    pub fn open(rt: &HostRuntime, output: W, variable: &str) -> IoResult<Self> {
-        let pipe = pipe_to_writer(rt, &output, variable)?;
-        Ok(Way { output, pipe })
-    }
-}
-
-impl<W: AsRawFd> Way<W> {
-    /// The output's file, if another process writes it.
-    pub fn written_file(&self, rt: &HostRuntime) -> Option<WrittenFile> {
-        if !self.is_pipe() {
-            return None;
-        }
-        let file = metadata_of(rt, &self.output).ok()?;
-        Some(WrittenFile {
-            device: file.dev(),
-            number: file.ino(),
-            length: file.len(),
-        })
-    }
-}
-
-impl<W> Way<W> {
-    /// Whether it is a pipe to another process.
-    pub fn is_pipe(&self) -> bool {
-        self.pipe.is_some()
-    }
-}
-
-impl<W: AsRawFd> AsRawFd for Way<W> {
-    fn as_raw_fd(&self) -> RawFd {
-        match &self.pipe {
-            Some(pipe) => pipe.as_raw_fd(),
-            None => self.output.as_raw_fd(),
-        }
-    }
-}
-
-impl<W: Write> Write for Way<W> {
-    fn write(&mut self, buf: &[u8]) -> IoResult<usize> {
-        match &mut self.pipe {
-            Some(pipe) => pipe.write(buf),
-            None => self.output.write(buf),
-        }
-    }
-
-    fn flush(&mut self) -> IoResult<()> {
-        match &mut self.pipe {
-            Some(pipe) => pipe.flush(),
-            None => self.output.flush(),
-        }
-    }
-}
-
-fn pipe_to_writer<W: AsRawFd>(
+/// Opens the pipe to a process that writes the file of an output, where this variable of the
+/// environment names one and the output is a regular file.
+///
+/// # Errors
+///
+/// The system's, where the pipe cannot be opened; `OutOfMemory` if an allocation failed.
+pub fn pipe_to_writer<W: AsRawFd>(
     rt: &HostRuntime,
     output: &W,
     variable: &str,
@@ -90,8 +38,8 @@ fn pipe_to_writer<W: AsRawFd>(
         both_ways: None,
         pipe: None,
     };
-    let is_pipe = open_way(&mut system)?;
-    Ok(if is_pipe { system.pipe } else { None })
+    open_way(&mut system)?;
+    Ok(system.pipe)
 }
 
 // An output whose way is opened, for the steps to that. It does not tell them.
@@ -125,8 +73,7 @@ impl<W: AsRawFd> WaySystem for SystemWay<'_, W> {
                 self.name = Some(name);
                 PipeVariable::NamesPipe
             }
-            Err(VarError::OutOfMemory) => PipeVariable::OutOfMemory,
-            Err(_) => PipeVariable::NamesNothing,
+            Err(error) => PipeVariable::of_error(error),
         }
     }
 
@@ -155,7 +102,8 @@ impl<W: AsRawFd> WaySystem for SystemWay<'_, W> {
     }
 }
 
-fn kind_of(error: Error) -> ErrorKind {
+/// Why the system failed.
+pub fn kind_of(error: Error) -> ErrorKind {
     error.kind()
 }
 

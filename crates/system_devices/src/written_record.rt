@@ -1,6 +1,6 @@
 ghost use Rattle.std.specs.Prelude.{[]};
 
-use crate::descriptor_poll::DescriptorPoll;
+use crate::descriptor_poll::{DescriptorPoll, open_poll};
 use crate::fault::DeviceFault;
 use crate::record_lock::is_same;
 use mio::Interest;
@@ -41,7 +41,7 @@ impl WrittenRecord {
             .open(rt, name)
             .map_err(of_system)?;
         let fifo = if is_fifo {
-            let poll = DescriptorPoll::open(rt, file.as_raw_fd(), Interest::READABLE);
+            let poll = open_poll(rt, file.as_raw_fd(), Interest::READABLE);
             Some(poll.map_err(of_system)?)
         } else {
             None

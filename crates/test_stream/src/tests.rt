@@ -11,6 +11,7 @@ mod night_devices;
 mod night_kinds;
 mod opening;
 mod packet;
+mod poll;
 mod queue;
 mod receiver;
 mod record_head;

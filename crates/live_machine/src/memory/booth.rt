@@ -1,5 +1,5 @@
 ghost use Rattle.std.specs.Prelude.{◌≡◌, [], ◌∷◌, ◌++◌, false, map};
-ghost use Rattle.live_machine.specs.BoothKept.{step_of};
+ghost use Rattle.live_machine.specs.BoothKept.{booth_step};
 
 use super::{MemoryClock, MemoryInput};
 use crate::booth_machine::{BoothMachine, BoothNote};
@@ -63,8 +63,8 @@ pub type MemoryBooth<'a> = MemorySteps<BoothDevices<'a>, MemoryStep>;
 #[tactic(auto, using(std::proofs::lemmas::List::map_push))]
 fn keep_step(booth: &mut MemoryBooth<'_>, step: MemoryStep)
     ensures told { booth.new.full ≡ false → booth.old.full ≡ false }
-    ensures step { booth.new.full ≡ false → map step_of booth.new.steps.items
-        ≡ map step_of booth.old.steps.items ++ step_of step ∷ [] }
+    ensures step { booth.new.full ≡ false → map booth_step booth.new.steps.items
+        ≡ map booth_step booth.old.steps.items ++ booth_step step ∷ [] }
 {
     booth.keep(step);
 }
@@ -74,7 +74,7 @@ impl BoothMachine for MemoryBooth<'_> {
 
     ghost tells = { λ m. m.full ≡ false };
 
-    ghost steps = { λ m. map step_of m.steps.items };
+    ghost steps = { λ m. map booth_step m.steps.items };
 
     fn hand_on(&mut self) {
         keep_step(self, MemoryStep::HandOn);

@@ -1,7 +1,8 @@
 ghost use Rattle.std.specs.Prelude.{◌≡◌, ◌<◌, ◌-◌, ◌++◌, ◌∷◌, [], ⊤, false, is_err, is_some};
 ghost use Rattle.std.specs.Prelude.{length, IfOk, OnOk, OnErr};
-ghost use Rattle.live_machine.specs.MemoryNight.{HasTried, IsSame, follow_end};
-ghost use Rattle.live_machine.specs.NightKinds.{success, failure};
+ghost use Rattle.memory_steps.specs.Keeping.{OnlyKeeps};
+ghost use Rattle.live_machine.specs.MemoryNight.{HasTried, IsSame, Tries, follow_end};
+ghost use Rattle.live_machine.specs.NightKinds.{failure, success};
 ghost use Rattle.live_machine.specs.NightSteps.{followed_steps, took_up_steps};
 ghost use Rattle.live_machine.specs.declared.night_system.NightDeed.TheVariants as deed;
 
@@ -9,69 +10,43 @@ use crate::night_start::NightRole;
 use crate::night_system::{FollowEnd, MainLines, NightDeed, NightStep, NightSystem};
 use devices::LinkFault;
 use devices::memory::Faults;
-use std::alloc::Global;
+use memory_steps::MemorySteps;
 
-/// A night over memory. It stops telling where memory for a step is refused.
-#[derive(Debug, Drop)]
-pub struct MemoryNight {
-    /// Of the steps that can fail, those fail that this says.
+/// What a night over memory answers.
+#[derive(Clone, Copy, Debug)]
+pub struct NightAnswers {
+    /// Of the deeds that can fail, those fail that this says.
     pub faults: Faults,
     /// The operator asks so many times yet where the night is.
     pub asks: u64,
     /// The night is over behind these lines, if any. A record that is taken up has lines that
     /// stand there.
     pub over: Option<MainLines>,
-    /// The steps, the first first.
-    pub steps: Vec<NightStep>,
-    /// Memory was refused: steps are missing.
-    pub full: bool,
 }
 
-impl MemoryNight {
-    /// A night of which no step was done yet.
-    pub fn new(alloc: Global, faults: Faults, asks: u64, over: Option<MainLines>) -> Self
-        ensures answers { (result.faults ≡ faults) × (result.asks ≡ asks) × (result.over ≡ over) }
-        ensures steps { result.steps.items ≡ [] }
-        ensures tells { result.full ≡ false }
-    {
-        MemoryNight {
-            faults,
-            asks,
-            over,
-            steps: Vec::new(alloc),
-            full: false,
-        }
-    }
+/// A night over memory.
+pub type MemoryNight = MemorySteps<NightAnswers, NightStep>;
 
-    fn keep(&mut self, deed: NightDeed, is_done: bool)
-        ensures same { (self.new.faults ≡ self.old.faults) × IsSame self.old self.new }
-        ensures told { self.new.full ≡ false → self.old.full ≡ false }
-        ensures step { self.new.full ≡ false → self.new.steps.items
-            ≡ self.old.steps.items ++ record { deed = deed; is_done = is_done } ∷ [] }
-        ensures few { self.new.full ≡ false
-            → length self.new.steps.items < 18446744073709551615 }
-    {
-        if self.steps.push(NightStep { deed, is_done }).is_err() {
-            self.full = true;
-        }
-    }
+// Tries what can fail.
+fn try_deed(night: &mut MemoryNight, deed: NightDeed) -> Result<(), LinkFault>
+    ensures { Tries deed (is_err result) night.old night.new }
+{
+    let answer = night.answers.faults.count();
+    night.keep(NightStep {
+        deed,
+        is_done: answer.is_ok(),
+    });
+    answer
+}
 
-    // Does what can fail.
-    fn try_deed(&mut self, deed: NightDeed) -> Result<(), LinkFault>
-        ensures tries { HasTried (is_err result) self.old self.new }
-        ensures same { IsSame self.old self.new }
-        ensures told { self.new.full ≡ false → self.old.full ≡ false }
-        ensures ok { OnOk result (self.new.full ≡ false
-            → self.new.steps.items ≡ self.old.steps.items ++ success deed ∷ []) }
-        ensures err { OnErr result (self.new.full ≡ false
-            → self.new.steps.items ≡ self.old.steps.items ++ failure deed ∷ []) }
-        ensures few { self.new.full ≡ false
-            → length self.new.steps.items < 18446744073709551615 }
-    {
-        let answer = self.faults.count();
-        self.keep(deed, answer.is_ok());
-        answer
-    }
+// Does what cannot fail.
+fn do_deed(night: &mut MemoryNight, deed: NightDeed)
+    ensures { OnlyKeeps night.old night.new (success deed) }
+{
+    night.keep(NightStep {
+        deed,
+        is_done: true,
+    });
 }
 
 impl NightSystem for MemoryNight {
@@ -106,126 +81,75 @@ impl NightSystem for MemoryNight {
     ghost is_playable = { λ _. ⊤ };
 
     fn open_main(&mut self, _name: ()) -> Result<(), LinkFault>
-        ensures tries { HasTried (is_err result) self.old self.new }
-        ensures same { IsSame self.old self.new }
-        ensures told { self.new.full ≡ false → self.old.full ≡ false }
-        ensures ok { OnOk result (self.new.full ≡ false
-            → self.new.steps.items ≡ self.old.steps.items ++ success deed.Main ∷ []) }
-        ensures err { OnErr result (self.new.full ≡ false
-            → self.new.steps.items ≡ self.old.steps.items ++ failure deed.Main ∷ []) }
+        ensures { Tries deed.Main (is_err result) self.old self.new }
     {
-        self.try_deed(NightDeed::Main)
+        try_deed(self, NightDeed::Main)
     }
 
     fn open_played_record(&mut self, _name: ()) -> Result<(), LinkFault>
-        ensures tries { HasTried (is_err result) self.old self.new }
-        ensures same { IsSame self.old self.new }
-        ensures told { self.new.full ≡ false → self.old.full ≡ false }
-        ensures ok { OnOk result (self.new.full ≡ false
-            → self.new.steps.items ≡ self.old.steps.items ++ success deed.PlayedRecord ∷ []) }
-        ensures err { OnErr result (self.new.full ≡ false
-            → self.new.steps.items ≡ self.old.steps.items ++ failure deed.PlayedRecord ∷ []) }
+        ensures { Tries deed.PlayedRecord (is_err result) self.old self.new }
     {
-        self.try_deed(NightDeed::PlayedRecord)
+        try_deed(self, NightDeed::PlayedRecord)
     }
 
     fn take_up(&mut self, _night: &mut (), _played: &mut ()) -> Result<bool, LinkFault>
-        ensures over { IfOk result (λ is_over. is_over ≡ is_some self.old.over) }
-        ensures tries { HasTried (is_err result) self.old self.new }
-        ensures same { IsSame self.old self.new }
+        ensures over { IfOk result (λ is_over. is_over ≡ is_some self.old.answers.over) }
+        ensures tries { HasTried (is_err result) self.old.answers self.new.answers }
+        ensures same { IsSame self.old.answers self.new.answers }
         ensures told { self.new.full ≡ false → self.old.full ≡ false }
         ensures ok { IfOk result (λ is_over. self.new.full ≡ false
             → self.new.steps.items ≡ self.old.steps.items ++ took_up_steps is_over) }
         ensures err { OnErr result (self.new.full ≡ false
             → self.new.steps.items ≡ self.old.steps.items ++ failure deed.TakeUp ∷ []) }
     {
-        self.try_deed(NightDeed::TakeUp)?;
-        let is_over = self.over.is_some();
+        try_deed(self, NightDeed::TakeUp)?;
+        let is_over = self.answers.over.is_some();
         if is_over {
-            self.keep(NightDeed::Over, true);
+            do_deed(self, NightDeed::Over);
         }
         Ok(is_over)
     }
 
     fn record_file(&mut self, _played: ()) -> Result<(), LinkFault>
-        ensures tries { HasTried (is_err result) self.old self.new }
-        ensures same { IsSame self.old self.new }
-        ensures told { self.new.full ≡ false → self.old.full ≡ false }
-        ensures ok { OnOk result (self.new.full ≡ false
-            → self.new.steps.items ≡ self.old.steps.items ++ success deed.RecordFile ∷ []) }
-        ensures err { OnErr result (self.new.full ≡ false
-            → self.new.steps.items ≡ self.old.steps.items ++ failure deed.RecordFile ∷ []) }
+        ensures { Tries deed.RecordFile (is_err result) self.old self.new }
     {
-        self.try_deed(NightDeed::RecordFile)
+        try_deed(self, NightDeed::RecordFile)
     }
 
     fn open_devices(&mut self, _descriptors: ()) -> Result<(), LinkFault>
-        ensures tries { HasTried (is_err result) self.old self.new }
-        ensures same { IsSame self.old self.new }
-        ensures told { self.new.full ≡ false → self.old.full ≡ false }
-        ensures ok { OnOk result (self.new.full ≡ false
-            → self.new.steps.items ≡ self.old.steps.items ++ success deed.Devices ∷ []) }
-        ensures err { OnErr result (self.new.full ≡ false
-            → self.new.steps.items ≡ self.old.steps.items ++ failure deed.Devices ∷ []) }
+        ensures { Tries deed.Devices (is_err result) self.old self.new }
     {
-        self.try_deed(NightDeed::Devices)
+        try_deed(self, NightDeed::Devices)
     }
 
     fn open_behind_record(&mut self, _descriptors: (), _file: ()) -> Result<(), LinkFault>
-        ensures tries { HasTried (is_err result) self.old self.new }
-        ensures same { IsSame self.old self.new }
-        ensures told { self.new.full ≡ false → self.old.full ≡ false }
-        ensures ok { OnOk result (self.new.full ≡ false
-            → self.new.steps.items ≡ self.old.steps.items ++ success deed.DevicesBehind ∷ []) }
-        ensures err { OnErr result (self.new.full ≡ false
-            → self.new.steps.items ≡ self.old.steps.items ++ failure deed.DevicesBehind ∷ []) }
+        ensures { Tries deed.DevicesBehind (is_err result) self.old self.new }
     {
-        self.try_deed(NightDeed::DevicesBehind)
+        try_deed(self, NightDeed::DevicesBehind)
     }
 
     fn new_night(&mut self) -> Result<(), LinkFault>
-        ensures tries { HasTried (is_err result) self.old self.new }
-        ensures same { IsSame self.old self.new }
-        ensures told { self.new.full ≡ false → self.old.full ≡ false }
-        ensures ok { OnOk result (self.new.full ≡ false
-            → self.new.steps.items ≡ self.old.steps.items ++ success deed.Night ∷ []) }
-        ensures err { OnErr result (self.new.full ≡ false
-            → self.new.steps.items ≡ self.old.steps.items ++ failure deed.Night ∷ []) }
+        ensures { Tries deed.Night (is_err result) self.old self.new }
     {
-        self.try_deed(NightDeed::Night)
+        try_deed(self, NightDeed::Night)
     }
 
     fn open_night(&mut self, _devices: &()) -> Result<(), LinkFault>
-        ensures tries { HasTried (is_err result) self.old self.new }
-        ensures same { IsSame self.old self.new }
-        ensures told { self.new.full ≡ false → self.old.full ≡ false }
-        ensures ok { OnOk result (self.new.full ≡ false
-            → self.new.steps.items ≡ self.old.steps.items ++ success deed.Night ∷ []) }
-        ensures err { OnErr result (self.new.full ≡ false
-            → self.new.steps.items ≡ self.old.steps.items ++ failure deed.Night ∷ []) }
+        ensures { Tries deed.Night (is_err result) self.old self.new }
     {
-        self.try_deed(NightDeed::Night)
+        try_deed(self, NightDeed::Night)
     }
 
     fn begin(&mut self, _devices: (), _night: &(), role: NightRole) -> Result<(), LinkFault>
-        ensures tries { HasTried (is_err result) self.old self.new }
-        ensures same { IsSame self.old self.new }
-        ensures told { self.new.full ≡ false → self.old.full ≡ false }
-        ensures ok { OnOk result (self.new.full ≡ false
-            → self.new.steps.items ≡ self.old.steps.items ++ success (deed.Begin role) ∷ []) }
-        ensures err { OnErr result (self.new.full ≡ false
-            → self.new.steps.items ≡ self.old.steps.items ++ failure (deed.Begin role) ∷ []) }
+        ensures { Tries (deed.Begin role) (is_err result) self.old self.new }
     {
-        self.try_deed(NightDeed::Begin(role))
+        try_deed(self, NightDeed::Begin(role))
     }
 
     fn watch(&mut self, _booth: &mut ())
-        ensures same { (self.new.faults ≡ self.old.faults) × IsSame self.old self.new }
-        ensures told { self.new.full ≡ false → self.old.full ≡ false }
-        ensures step { self.new.full ≡ false
-            → self.new.steps.items ≡ self.old.steps.items ++ success deed.Watch ∷ [] }
+        ensures { OnlyKeeps self.old self.new (success deed.Watch) }
     {
-        self.keep(NightDeed::Watch, true);
+        do_deed(self, NightDeed::Watch);
     }
 
     fn follow(
@@ -235,11 +159,12 @@ impl NightSystem for MemoryNight {
         _booth: &mut (),
         lines: MainLines,
     ) -> Result<FollowEnd, LinkFault>
-        ensures end { IfOk result (λ end. end ≡ follow_end self.old.asks self.old.over lines) }
-        ensures asks { OnOk result (self.new.asks ≡ self.old.asks - 1) }
-        ensures unasked { OnErr result (self.new.asks ≡ self.old.asks) }
-        ensures over { self.new.over ≡ self.old.over }
-        ensures tries { HasTried (is_err result) self.old self.new }
+        ensures end { IfOk result (λ end. end
+            ≡ follow_end self.old.answers.asks self.old.answers.over lines) }
+        ensures asks { OnOk result (self.new.answers.asks ≡ self.old.answers.asks - 1) }
+        ensures unasked { OnErr result (self.new.answers.asks ≡ self.old.answers.asks) }
+        ensures over { self.new.answers.over ≡ self.old.answers.over }
+        ensures tries { HasTried (is_err result) self.old.answers self.new.answers }
         ensures told { self.new.full ≡ false → self.old.full ≡ false }
         ensures ok { IfOk result (λ end. self.new.full ≡ false
             → self.new.steps.items ≡ self.old.steps.items ++ followed_steps lines end) }
@@ -248,98 +173,65 @@ impl NightSystem for MemoryNight {
         ensures few { self.new.full ≡ false
             → length self.new.steps.items < 18446744073709551615 }
     {
-        self.try_deed(NightDeed::Follow(lines))?;
-        if self.asks > 0 {
-            self.asks -= 1;
-            self.keep(NightDeed::Asked, true);
+        try_deed(self, NightDeed::Follow(lines))?;
+        if self.answers.asks > 0 {
+            self.answers.asks -= 1;
+            do_deed(self, NightDeed::Asked);
             return Ok(FollowEnd::Asked);
         }
-        if self.over == Some(lines) {
-            self.keep(NightDeed::Over, true);
+        if self.answers.over == Some(lines) {
+            do_deed(self, NightDeed::Over);
             return Ok(FollowEnd::Over);
         }
         Ok(FollowEnd::Ended)
     }
 
     fn show_place(&mut self, _night: &(), _booth: &mut ())
-        ensures same { (self.new.faults ≡ self.old.faults) × IsSame self.old self.new }
-        ensures told { self.new.full ≡ false → self.old.full ≡ false }
-        ensures step { self.new.full ≡ false
-            → self.new.steps.items ≡ self.old.steps.items ++ success deed.Place ∷ [] }
+        ensures { OnlyKeeps self.old self.new (success deed.Place) }
     {
-        self.keep(NightDeed::Place, true);
+        do_deed(self, NightDeed::Place);
     }
 
     fn tell_main(&mut self, _night: &(), _main: &(), _booth: &mut ()) -> Result<(), LinkFault>
-        ensures tries { HasTried (is_err result) self.old self.new }
-        ensures same { IsSame self.old self.new }
-        ensures told { self.new.full ≡ false → self.old.full ≡ false }
-        ensures ok { OnOk result (self.new.full ≡ false
-            → self.new.steps.items ≡ self.old.steps.items ++ success deed.MainLine ∷ []) }
-        ensures err { OnErr result (self.new.full ≡ false
-            → self.new.steps.items ≡ self.old.steps.items ++ failure deed.MainLine ∷ []) }
+        ensures { Tries deed.MainLine (is_err result) self.old self.new }
     {
-        self.try_deed(NightDeed::MainLine)
+        try_deed(self, NightDeed::MainLine)
     }
 
     fn follow_on(&mut self, _main: &mut ()) -> Result<(), LinkFault>
-        ensures tries { HasTried (is_err result) self.old self.new }
-        ensures same { IsSame self.old self.new }
-        ensures told { self.new.full ≡ false → self.old.full ≡ false }
-        ensures ok { OnOk result (self.new.full ≡ false
-            → self.new.steps.items ≡ self.old.steps.items ++ success deed.FollowOn ∷ []) }
-        ensures err { OnErr result (self.new.full ≡ false
-            → self.new.steps.items ≡ self.old.steps.items ++ failure deed.FollowOn ∷ []) }
+        ensures { Tries deed.FollowOn (is_err result) self.old self.new }
     {
-        self.try_deed(NightDeed::FollowOn)
+        try_deed(self, NightDeed::FollowOn)
     }
 
     fn tell_over(&mut self, _night: &(), _booth: &mut ())
-        ensures same { (self.new.faults ≡ self.old.faults) × IsSame self.old self.new }
-        ensures told { self.new.full ≡ false → self.old.full ≡ false }
-        ensures step { self.new.full ≡ false
-            → self.new.steps.items ≡ self.old.steps.items ++ success deed.OverLine ∷ [] }
+        ensures { OnlyKeeps self.old self.new (success deed.OverLine) }
     {
-        self.keep(NightDeed::OverLine, true);
+        do_deed(self, NightDeed::OverLine);
     }
 
     fn tell_lead(&mut self, _night: &(), _main: &mut (), _booth: &mut ()) -> Result<(), LinkFault>
-        ensures tries { HasTried (is_err result) self.old self.new }
-        ensures same { IsSame self.old self.new }
-        ensures told { self.new.full ≡ false → self.old.full ≡ false }
-        ensures ok { OnOk result (self.new.full ≡ false
-            → self.new.steps.items ≡ self.old.steps.items ++ success deed.LeadLine ∷ []) }
-        ensures err { OnErr result (self.new.full ≡ false
-            → self.new.steps.items ≡ self.old.steps.items ++ failure deed.LeadLine ∷ []) }
+        ensures { Tries deed.LeadLine (is_err result) self.old self.new }
     {
-        self.try_deed(NightDeed::LeadLine)
+        try_deed(self, NightDeed::LeadLine)
     }
 
     fn hand_over(&mut self, _main: &mut (), _booth: &mut ())
-        ensures same { (self.new.faults ≡ self.old.faults) × IsSame self.old self.new }
-        ensures told { self.new.full ≡ false → self.old.full ≡ false }
-        ensures step { self.new.full ≡ false
-            → self.new.steps.items ≡ self.old.steps.items ++ success deed.HandOver ∷ [] }
+        ensures { OnlyKeeps self.old self.new (success deed.HandOver) }
     {
-        self.keep(NightDeed::HandOver, true);
+        do_deed(self, NightDeed::HandOver);
     }
 
     fn lead(&mut self, _night: &mut (), _booth: &mut ())
-        ensures same { (self.new.faults ≡ self.old.faults) × IsSame self.old self.new }
-        ensures told { self.new.full ≡ false → self.old.full ≡ false }
-        ensures step { self.new.full ≡ false
-            → self.new.steps.items ≡ self.old.steps.items ++ success deed.Lead ∷ [] }
+        ensures { OnlyKeeps self.old self.new (success deed.Lead) }
     {
-        self.keep(NightDeed::Lead, true);
+        do_deed(self, NightDeed::Lead);
     }
 
     fn finish(&mut self, _booth: &mut ())
-        ensures same { (self.new.faults ≡ self.old.faults) × IsSame self.old self.new }
-        ensures told { self.new.full ≡ false → self.old.full ≡ false }
-        ensures step { self.new.full ≡ false
-            → self.new.steps.items ≡ self.old.steps.items ++ success deed.Finish ∷ [] }
+        ensures { OnlyKeeps self.old self.new (success deed.Finish) }
     {
-        self.keep(NightDeed::Finish, true);
+        do_deed(self, NightDeed::Finish);
     }
 
     ghost plays = { λ _ can. can };

@@ -2,6 +2,7 @@ ghost use Rattle.std.specs.Prelude.{◌≡◌, false};
 ghost use Rattle.memory_steps.specs.Keeping.{OnlyKeeps};
 ghost use Rattle.night_files.specs.declared.record_opening.RecordStep.TheVariants as step;
 
+use crate::file_node::FileNode;
 use crate::lock_request::FileLock;
 use crate::record_opening::{FileFault, FoundFile, NamedFile, RecordStep, RecordSystem};
 use crate::record_use::FileAccess;
@@ -14,6 +15,10 @@ pub struct FileAnswers {
     pub opened: Result<(), FileFault>,
     pub found: Result<FoundFile, FileFault>,
     pub lock: FileLock,
+    /// The process that the list of locks names.
+    pub listed: Option<u32>,
+    /// Whether it is there.
+    pub is_process: bool,
     pub named: Result<NamedFile, FileFault>,
     pub pause: Result<(), FileFault>,
     pub text: Result<(), FileFault>,
@@ -23,6 +28,8 @@ pub struct FileAnswers {
 pub type MemoryFile = MemorySteps<FileAnswers, RecordStep>;
 
 impl RecordSystem for MemoryFile {
+    type File = ();
+
     ghost tells = { λ m. m.full ≡ false };
 
     ghost steps = { λ m. m.steps.items };
@@ -45,7 +52,7 @@ impl RecordSystem for MemoryFile {
         answer
     }
 
-    fn look(&mut self) -> Result<FoundFile, FileFault>
+    fn look(&mut self, _file: &()) -> Result<FoundFile, FileFault>
         ensures answer { result ≡ self.old.answers.found }
         ensures keeps { OnlyKeeps self.old self.new (step.Look result) }
     {
@@ -54,7 +61,7 @@ impl RecordSystem for MemoryFile {
         answer
     }
 
-    fn lock(&mut self) -> FileLock
+    fn lock(&mut self, _file: &()) -> FileLock
         ensures answer { result ≡ self.old.answers.lock }
         ensures keeps { OnlyKeeps self.old self.new (step.Lock result) }
     {
@@ -63,7 +70,7 @@ impl RecordSystem for MemoryFile {
         answer
     }
 
-    fn lock_at_once(&mut self) -> FileLock
+    fn lock_at_once(&mut self, _file: &()) -> FileLock
         ensures answer { result ≡ self.old.answers.lock }
         ensures keeps { OnlyKeeps self.old self.new (step.LockAtOnce result) }
     {
@@ -72,7 +79,25 @@ impl RecordSystem for MemoryFile {
         answer
     }
 
-    fn look_again(&mut self) -> Result<NamedFile, FileFault>
+    fn listed_process(&mut self, node: FileNode) -> Option<u32>
+        ensures answer { result ≡ self.old.answers.listed }
+        ensures keeps { OnlyKeeps self.old self.new (step.Listed node result) }
+    {
+        let answer = self.answers.listed;
+        self.keep(RecordStep::Listed(node, answer));
+        answer
+    }
+
+    fn is_process(&mut self, process: u32) -> bool
+        ensures answer { result ≡ self.old.answers.is_process }
+        ensures keeps { OnlyKeeps self.old self.new (step.Process process result) }
+    {
+        let answer = self.answers.is_process;
+        self.keep(RecordStep::Process(process, answer));
+        answer
+    }
+
+    fn look_again(&mut self, _file: &()) -> Result<NamedFile, FileFault>
         ensures answer { result ≡ self.old.answers.named }
         ensures keeps { OnlyKeeps self.old self.new (step.LookAgain result) }
     {
@@ -81,7 +106,7 @@ impl RecordSystem for MemoryFile {
         answer
     }
 
-    fn keep_pause(&mut self) -> Result<(), FileFault>
+    fn keep_pause(&mut self, _file: &()) -> Result<(), FileFault>
         ensures answer { result ≡ self.old.answers.pause }
         ensures keeps { OnlyKeeps self.old self.new (step.Pause result) }
     {
@@ -90,7 +115,7 @@ impl RecordSystem for MemoryFile {
         answer
     }
 
-    fn keep_text(&mut self) -> Result<(), FileFault>
+    fn keep_text(&mut self, _file: &()) -> Result<(), FileFault>
         ensures answer { result ≡ self.old.answers.text }
         ensures keeps { OnlyKeeps self.old self.new (step.Read result) }
     {

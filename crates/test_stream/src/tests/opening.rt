@@ -1,7 +1,8 @@
 use night_files::memory::{FileAnswers, MemoryFile};
 use night_files::{
-    FileFault, FileLock, FoundFile, NamedFile, OpeningFault, RecordRefusal, RecordStep, RecordUse,
-    open_record, record_opening_law, remove_if_unused, take_over_law, take_over_record,
+    FileFault, FileLock, FileNode, FoundFile, NamedFile, OpenRecord, OpeningFault, RecordRefusal,
+    RecordStep, RecordUse, lock_holder, lock_holder_law, open_record, record_opening_law,
+    remove_if_unused, take_over_law, take_over_record,
 };
 use std::alloc::Global;
 use std::process::Abort;
@@ -12,21 +13,36 @@ type Row = (FileAnswers, Result<bool, OpeningFault>, usize);
 // The steps in their order: towards an open file, to take one over, and to remove one.
 const OPENING: &[&str] = &["name", "open", "look", "lock", "again", "pause", "read"];
 
+const IN_USE: &[&str] = &["name", "open", "look", "lock", "list", "process"];
+
 const TAKING_OVER: &[&str] = &["at once", "again", "pause"];
 
 const REMOVAL: &[&str] = &["open", "at once", "look", "remove"];
 
+const OWN: FileNode = FileNode {
+    device: 1,
+    inode: 2,
+};
+
+const ANOTHER: FileNode = FileNode {
+    device: 1,
+    inode: 3,
+};
+
 const EMPTY: FoundFile = FoundFile {
+    node: OWN,
     is_regular: true,
     length: 0,
 };
 
 const WRITTEN: FoundFile = FoundFile {
+    node: OWN,
     is_regular: true,
     length: 1,
 };
 
 const DEVICE: FoundFile = FoundFile {
+    node: OWN,
     is_regular: false,
     length: 0,
 };
@@ -41,8 +57,10 @@ const NEW: FileAnswers = FileAnswers {
     opened: Ok(()),
     found: Ok(EMPTY),
     lock: FileLock::Ours,
+    listed: Some(7),
+    is_process: true,
     named: Ok(NamedFile {
-        is_named: true,
+        named: OWN,
         found: EMPTY,
     }),
     pause: Ok(()),
@@ -62,7 +80,7 @@ const LOCKLESS: FileAnswers = FileAnswers {
 
 const RENAMED: FileAnswers = FileAnswers {
     named: Ok(NamedFile {
-        is_named: false,
+        named: ANOTHER,
         found: EMPTY,
     }),
     ..NEW
@@ -79,6 +97,8 @@ fn word(step: &RecordStep) -> &'static str {
         RecordStep::Look(_) => "look",
         RecordStep::Lock(_) => "lock",
         RecordStep::LockAtOnce(_) => "at once",
+        RecordStep::Listed(..) => "list",
+        RecordStep::Process(..) => "process",
         RecordStep::LookAgain(_) => "again",
         RecordStep::Pause(_) => "pause",
         RecordStep::Read(_) => "read",
@@ -97,13 +117,27 @@ fn are_steps(file: &MemoryFile, order: &[&str], count: usize) -> bool {
             .all(|(step, name)| word(step) == *name)
 }
 
+fn has_lock(record: Result<OpenRecord<()>, OpeningFault>) -> Result<bool, OpeningFault> {
+    match record {
+        Ok(record) => Ok(record.has_lock),
+        Err(fault) => Err(fault),
+    }
+}
+
+fn order_of(answer: Result<bool, OpeningFault>) -> &'static [&'static str] {
+    match answer {
+        Err(OpeningFault::Refused(RecordRefusal::InUse(_))) => IN_USE,
+        _ => OPENING,
+    }
+}
+
 // A file is opened for a purpose, or taken over where there is none.
 fn holds(alloc: Global, purpose: Option<RecordUse>, row: &Row) -> bool {
     let (answers, answer, count) = *row;
     let mut file = MemoryFile::new(alloc, answers);
     let (given, order) = match purpose {
-        Some(purpose) => (open_record(&mut file, purpose), OPENING),
-        None => (take_over_record(&mut file), TAKING_OVER),
+        Some(purpose) => (has_lock(open_record(&mut file, purpose)), order_of(answer)),
+        None => (take_over_record(&mut file, &()), TAKING_OVER),
     };
     given == answer && are_steps(&file, order, count)
 }
@@ -126,7 +160,7 @@ fn a_night_begins_in_a_locked_file(rt: HostRuntime) {
     record_opening_law();
     let rows = &[
         (NEW, Ok(true), 5),
-        (THEIRS, refused(RecordRefusal::InUse), 4),
+        (THEIRS, refused(RecordRefusal::InUse(Some(7))), 6),
         (LOCKLESS, Ok(false), 5),
         (RENAMED, refused(RecordRefusal::OtherName), 5),
         // What is refused is not locked, and nor is a device.
@@ -150,7 +184,7 @@ fn a_night_begins_in_a_locked_file(rt: HostRuntime) {
         (
             FileAnswers {
                 named: Ok(NamedFile {
-                    is_named: true,
+                    named: OWN,
                     found: WRITTEN,
                 }),
                 ..NEW
@@ -228,5 +262,25 @@ fn a_locked_and_empty_file_is_removed(rt: HostRuntime) {
     let rows = &[(NEW, 4), (THEIRS, 3), (LOCKLESS, 3), (written, 3)];
     for (answers, count) in rows {
         assert!(rt; is_removed(rt.alloc(), *answers, *count));
+    }
+}
+
+#[test]
+fn a_process_that_is_there_has_the_lock(rt: HostRuntime) {
+    lock_holder_law();
+    let rows = &[
+        (Some(7), true, Some(7), 2),
+        (Some(7), false, None, 2),
+        (None, true, None, 1),
+    ];
+    for (listed, is_process, expected, count) in rows {
+        let answers = FileAnswers {
+            listed: *listed,
+            is_process: *is_process,
+            ..NEW
+        };
+        let mut file = MemoryFile::new(rt.alloc(), answers);
+        let is_answer = lock_holder(&mut file, OWN) == *expected;
+        assert!(rt; is_answer && file.steps.len() == *count);
     }
 }

@@ -1,4 +1,4 @@
-use super::screen::{are_deeds, look};
+use super::screen::{are_deeds, look, memory_outputs};
 use line_queue::{MemoryOutputs, OutputLook, RecordKeeper};
 use std::alloc::Global;
 use std::process::Abort;
@@ -37,13 +37,13 @@ fn make_call(keeper: &mut RecordKeeper, outputs: &mut MemoryOutputs, call: &Call
         Call::Keep => keeper.keep(outputs, b"1 go\n"),
         Call::Copy => keeper.copy(outputs, b"1 go\n"),
         Call::Finish => keeper.finish(outputs, &()),
-        Call::Be(look) => outputs.look = look,
+        Call::Be(look) => outputs.answers.look = look,
     }
 }
 
 fn holds(alloc: Global, row: &Row) -> bool {
     let (calls, words) = *row;
-    let mut outputs = MemoryOutputs::new(alloc, look(false), 2, 2);
+    let mut outputs = memory_outputs(alloc, look(false), 2, 2);
     let mut keeper = RecordKeeper::new();
     for each in calls {
         make_call(&mut keeper, &mut outputs, each);

@@ -1,4 +1,4 @@
-use line_queue::{MemoryDeed, MemoryOutputs, OutputLook, Screen};
+use line_queue::{MemoryDeed, MemoryOutputs, OutputAnswers, OutputLook, Screen};
 use std::alloc::Global;
 use std::process::Abort;
 
@@ -32,8 +32,8 @@ fn word(deed: &MemoryDeed) -> &'static str {
 
 /// Whether these are the deeds, and all of them.
 pub fn are_deeds(outputs: &MemoryOutputs, words: &[&str]) -> bool {
-    let deeds = outputs.deeds.as_slice();
-    !outputs.is_lost
+    let deeds = outputs.steps.as_slice();
+    !outputs.full
         && deeds.len() == words.len()
         && deeds
             .iter()
@@ -43,7 +43,7 @@ pub fn are_deeds(outputs: &MemoryOutputs, words: &[&str]) -> bool {
 
 /// How many milliseconds the writers were waited for.
 pub fn waits(outputs: &MemoryOutputs) -> usize {
-    let deeds = outputs.deeds.as_slice().iter();
+    let deeds = outputs.steps.as_slice().iter();
     deeds.filter(|deed| word(deed) == "wait").count()
 }
 
@@ -54,6 +54,11 @@ pub fn look(has_failed: bool) -> OutputLook {
         is_late: false,
         gaps: 0,
     }
+}
+
+/// Outputs that are so. Their writers owe so many bytes, and write `step` of them in a millisecond.
+pub fn memory_outputs(alloc: Global, look: OutputLook, owed: u64, step: u64) -> MemoryOutputs {
+    MemoryOutputs::new(alloc, OutputAnswers { look, owed, step })
 }
 
 fn make_call(screen: &mut Screen<MemoryOutputs>, call: &Call) {
@@ -67,7 +72,7 @@ fn make_call(screen: &mut Screen<MemoryOutputs>, call: &Call) {
 
 fn holds(alloc: Global, has_failed: bool, row: &Row) -> bool {
     let (calls, words) = *row;
-    let mut screen = Screen::new(MemoryOutputs::new(alloc, look(has_failed), 2, 2));
+    let mut screen = Screen::new(memory_outputs(alloc, look(has_failed), 2, 2));
     for each in calls {
         make_call(&mut screen, each);
     }
@@ -130,9 +135,9 @@ fn replies_that_failed_are_told_of_once(rt: HostRuntime) {
 
 #[test]
 fn what_is_still_owed_is_told(rt: HostRuntime) {
-    let mut screen = Screen::new(MemoryOutputs::new(rt.alloc(), look(false), 3, 0));
+    let mut screen = Screen::new(memory_outputs(rt.alloc(), look(false), 3, 0));
     screen.finish(&());
     assert!(rt; waits(&screen.outputs) == 2000);
-    let last = screen.outputs.deeds.as_slice().iter().rev().nth(1);
+    let last = screen.outputs.steps.as_slice().iter().rev().nth(1);
     assert!(rt; last.is_some_and(|deed| word(deed) == "message"));
 }

@@ -1,5 +1,5 @@
-use super::screen::{look, waits};
-use line_queue::{MemoryOutputs, wait_for_writers};
+use super::screen::{look, memory_outputs, waits};
+use line_queue::wait_for_writers;
 use std::alloc::Global;
 use std::process::Abort;
 
@@ -9,9 +9,9 @@ type Row = (u64, u64, u64, usize);
 
 fn holds(alloc: Global, row: &Row) -> bool {
     let (owed, step, left, waited) = *row;
-    let mut writers = MemoryOutputs::new(alloc, look(false), owed, step);
+    let mut writers = memory_outputs(alloc, look(false), owed, step);
     let is_left = wait_for_writers(&mut writers, &()) == left;
-    !writers.is_lost && is_left && waits(&writers) == waited
+    !writers.full && is_left && waits(&writers) == waited
 }
 
 fn hold_each(rt: &impl Abort, alloc: Global, rows: &[Row]) {

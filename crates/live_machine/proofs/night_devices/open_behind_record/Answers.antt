@@ -1,15 +1,16 @@
 use Rattle.std.proofs.Common.{arith}
-use Rattle.std.proofs.lemmas.Grind.{common_steps}
-use Rattle.std.proofs.lemmas.Result.{err_from_is_err_and}
+use Rattle.live_machine.proofs.InTurn.{at_fault, adds, then_adds}
 use Rattle.live_machine.proofs.night_devices.open_behind_record.Goals as goal
 
+pub returns-in_err-cid_lock-clause-err : goal.returns-in_err-cid_lock-clause-err
+returns-in_err-cid_lock-clause-err g c = at_fault c.from_residual-in_err-cid_lock.result (λ told.
+    let screen = adds _ _ c.open_screen.ensures.told c.in_ok-screen.ensures.ok in
+    let cid_lock = then_adds screen _ c.take_cid_lock.ensures.told c.in_err-cid_lock.ensures.err in
+    (1, omega arith, cid_lock.steps told))
+
 pub returns-in_err-network-clause-err : goal.returns-in_err-network-clause-err
-returns-in_err-network-clause-err g c =
-    let is = err_from_is_err_and c.from_residual-in_err-network.result
-    c.from_residual-in_err-network.ensures.1 in
-    rw is.1 (λ told.
-    let locked = c.open_network.ensures.told told in
-    let screen = c.in_ok-screen.ensures.ok (c.take_cid_lock.ensures.told locked) in
-    let lock = c.in_ok-cid_lock.ensures.ok locked in
-    let network = c.in_err-network.ensures.err told in
-    (2, omega arith, grind (arith, common_steps)))
+returns-in_err-network-clause-err g c = at_fault c.from_residual-in_err-network.result (λ told.
+    let screen = adds _ _ c.open_screen.ensures.told c.in_ok-screen.ensures.ok in
+    let cid_lock = then_adds screen _ c.take_cid_lock.ensures.told c.in_ok-cid_lock.ensures.ok in
+    let network = then_adds cid_lock _ c.open_network.ensures.told c.in_err-network.ensures.err in
+    (2, omega arith, network.steps told))

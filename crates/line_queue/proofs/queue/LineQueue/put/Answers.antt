@@ -1,8 +1,24 @@
-use Rattle.std.proofs.Common.{◌++◌, ◌∷◌, [], append-nil}
+use Rattle.std.proofs.Common.{◌++◌, ◌∷◌, ◌∙◌, [], append-nil}
+use Rattle.line_queue.proofs.Handed.{asked_twice, handed_behind}
 use Rattle.line_queue.proofs.queue.LineQueue.put.Goals as goal
 
-pub returns-clause-stands : goal.returns-clause-stands
-returns-clause-stands g c = λ tells given stands.
-    let told = c.hand_on.ensures.told tells in
-    let taken = c.take.ensures.stands told given stands in
-    rw append-nil at (c.hand_on.ensures.stands tells (given ++ c.args.line.now ∷ []) taken)
+pub returns-clause-puts : goal.returns-clause-puts
+returns-clause-puts g c =
+    let took = c.take.ensures.takes in
+    let handed = c.hand_on.ensures in
+    let old = g.P.Pipe.tape c.args.self.now.pipe in
+    let one = g.P.Pipe.tape c.take.new.self.pipe in
+    let new = g.P.Pipe.tape c.hand_on.new.self.pipe in record {
+      takes = record {
+        told = λ tells. took.told (handed.takes.told tells);
+        notice = handed.takes.notice ∙ took.notice;
+        stands = λ tells given stands.
+            let told = handed.takes.told tells in
+            rw append-nil at (handed.takes.stands tells (given ++ c.args.line.now ∷ [])
+            (took.stands told given stands));
+        asks = λ tells. asked_twice old one new 16 16 (took.asks (handed.takes.told tells))
+            (handed.takes.asks tells);
+      };
+      handed = λ tells. handed_behind c.hand_on.new.self old one new 16
+          (took.asks (handed.takes.told tells)).no_fewer (handed.done tells);
+    }

@@ -1,7 +1,7 @@
 use Rattle.std.proofs.Common.{◌≡◌, ◌∙◌, [], None, Some, ap, refl, sym, subst, take}
 use Rattle.line_queue.specs.Pipes.{after_write}
 use Rattle.line_queue.specs.Stands.{StandsFor, waiting_in}
-use Rattle.line_queue.proofs.Accounting.{none_more, same_stands, take-front}
+use Rattle.line_queue.proofs.Accounting.{none_more, same_but_pipe, same_stands, take-front}
 use Rattle.line_queue.proofs.queue.LineQueue.write_part.Goals as goal
 
 pub returns-in-Ok-clause-stands : goal.returns-in-Ok-clause-stands
@@ -18,14 +18,7 @@ returns-in-Ok-clause-stands g c = λ tells given stands.
     (waiting_in old)) None =
     ap (λ p. g.P.Pipe.tape p) c.let_go.ensures.pipe ∙ c.in-Ok.ensures.ok told
     ∙ ap (λ xs. after_write tape xs None) bytes in
-    let moved = same_stands old _ tape tape given (record {
-      notice = refl;
-      waiting = refl;
-      taken = refl;
-      dropped = refl;
-      gaps = refl;
-      failure = refl;
-    }) refl refl stands in
+    let moved = same_stands old _ tape tape given (same_but_pipe old _) refl refl stands in
     none_more new _ given (subst (λ t. StandsFor new t given) (sym wrote)
     (c.let_go.ensures.stands tape given moved))
 
@@ -37,13 +30,6 @@ returns-in-Err-2-clause-stands g c = λ tells given stands.
     let told = subst (λ p. g.P.Pipe.tells p) c.fail.ensures.pipe tells in
     let wrote : g.P.Pipe.tape new.pipe ≡ after_write tape [] (Some c.in-Err.kind) =
     ap (λ p. g.P.Pipe.tape p) c.fail.ensures.pipe ∙ c.in-Err.ensures.err told in
-    let moved = same_stands old _ tape tape given (record {
-      notice = refl;
-      waiting = refl;
-      taken = refl;
-      dropped = refl;
-      gaps = refl;
-      failure = refl;
-    }) refl refl stands in
+    let moved = same_stands old _ tape tape given (same_but_pipe old _) refl refl stands in
     none_more new _ given (subst (λ t. StandsFor new t given) (sym wrote)
     (c.fail.ensures.stands tape given moved))

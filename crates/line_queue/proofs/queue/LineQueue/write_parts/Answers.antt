@@ -4,7 +4,7 @@ use Rattle.std.proofs.Math.Nat.{mul-suc}
 use Rattle.std.proofs.lemmas.Grind.{common_steps}
 use Rattle.line_queue.specs.Pipes.{lasting_failure}
 use Rattle.line_queue.specs.Stands.{StandsFor, waiting_in}
-use Rattle.line_queue.proofs.Accounting.{same_stands}
+use Rattle.line_queue.proofs.Accounting.{same_but_pipe, same_stands}
 use Rattle.line_queue.proofs.queue.LineQueue.write_parts.Goals as goal
 
 pub loop-preserved : goal.loop-preserved
@@ -19,14 +19,7 @@ loop-preserved g c =
           let tape = asked.tape told in
           let so_far = before.stands (asked.told told) given stands in
           let same = same_stands c.loop.self _ (g.P.Pipe.tape c.loop.self.pipe)
-          (g.P.Pipe.tape c.takes_bytes.new.self) (given ++ []) (record {
-            notice = refl;
-            waiting = refl;
-            taken = refl;
-            dropped = refl;
-            gaps = refl;
-            failure = refl;
-          })
+          (g.P.Pipe.tape c.takes_bytes.new.self) (given ++ []) (same_but_pipe c.loop.self _)
           (ap (λ t. t.taken) tape) (ap (λ t. lasting_failure t.fault) tape) so_far in
           subst (λ lines. StandsFor new (g.P.Pipe.tape new.pipe) lines) (append-nil (given ++ []))
           (wrote.stands tells (given ++ []) same);
