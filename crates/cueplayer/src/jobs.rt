@@ -21,7 +21,7 @@ use sacn_source::Identity;
 use show_reader::read_show;
 use std::cell::RefCell;
 use std::io::{BufWriter, ErrorKind, Stdout};
-use system_devices::{CardSender, Network, ReceivingSocket, SystemInput, SystemOutput};
+use system_devices::{Network, ReceivingSocket, SharedNetwork, SystemInput, SystemOutput};
 use targets::TargetLink;
 
 /// Told where a night has no lock of its CID.
@@ -205,8 +205,8 @@ pub fn link_of<'a>(
     rt: &'a HostRuntime,
     network: &'a RefCell<Network>,
     night: &Night,
-) -> TargetLink<CardSender<'a>> {
-    TargetLink::new(CardSender::new(rt, network), night.targets.copy())
+) -> TargetLink<SharedNetwork<'a>> {
+    TargetLink::new(SharedNetwork::new(rt, network), night.targets.copy())
 }
 
 /// How a night ended. Of packets that were lost the last is told.
