@@ -1,8 +1,11 @@
 use crate::jobs::of_socket_fault;
 use cmd_words::{Name, Night};
-use network_tables::{CardRefusal, Cards, HiddenCards};
+use network_tables::Cards;
 use remarks::{DownCards, JobFault, Remark, of_card, of_route};
-use system_devices::{Leaving, Network, SystemCards, hidden_cards, named_source, read_cards};
+use system_devices::{
+    Leaving, NamedRefusal, Network, NetworkRefusal, SocketFault, SystemCards, read_cards,
+    source_by_name,
+};
 
 /// Opens the sockets of a night.
 ///
@@ -21,23 +24,19 @@ pub fn open_network(
         ttl: night.ttl,
         never_waits,
     };
-    let network = Network::open(rt, &night.targets, leaving).map_err(of_socket_fault)?;
-    match other_route(&network, night.interface.is_some()) {
-        None => Ok(network),
-        Some(remark) => Err(JobFault::Words(remark)),
-    }
+    Network::open(rt, &night.targets, leaving).map_err(of_network_refusal)
 }
 
-// By which other card a route leads, and to which host, where that refuses a night.
-fn other_route(network: &Network, is_named: bool) -> Option<Remark> {
-    for path in network.paths() {
-        if let Some(other) = path.state.refused_card(is_named) {
-            let source = network.source_of(path);
-            let card = source.map_or("the card", |source| source.card.as_str());
-            return Some(of_route(path.host, card, other.as_str()));
+fn of_network_refusal(refusal: NetworkRefusal) -> JobFault {
+    match refusal {
+        NetworkRefusal::Socket(fault) => {
+            JobFault::Run(of_socket_fault(SocketFault::of_night(fault)))
+        }
+        NetworkRefusal::Route(refused) => {
+            let (card, other) = (refused.card.as_str(), refused.other.as_str());
+            JobFault::Words(of_route(refused.host, card, other))
         }
     }
-    None
 }
 
 // The address that packets come from, where a card is named.
@@ -46,19 +45,14 @@ fn source_of(rt: &HostRuntime, night: &Night) -> Result<Option<[u8; 4]>, JobFaul
         return Ok(None);
     };
     let cards = read_cards(rt);
-    let mut system = SystemCards::new(rt);
-    match named_source(&mut system, named, &cards) {
+    match source_by_name(&mut SystemCards::new(rt), named, &cards) {
         Ok(address) => Ok(Some(address)),
-        Err(refusal) => {
-            let hidden = hidden_cards(&mut system, cards.as_slice());
-            Err(JobFault::Words(of_refusal(named, refusal, &cards, &hidden)))
-        }
+        Err(refusal) => Err(JobFault::Words(of_named_refusal(named, &refusal, &cards))),
     }
 }
 
-// Why a card that was named cannot be sent by.
-fn of_refusal(named: &str, refusal: CardRefusal, cards: &Cards, hidden: &HiddenCards) -> Remark {
-    let names = hidden.names.as_str();
-    let count = hidden.count;
-    of_card(named, refusal, cards, DownCards { names, count })
+fn of_named_refusal(named: &str, refusal: &NamedRefusal, cards: &Cards) -> Remark {
+    let names = refusal.hidden.names.as_str();
+    let count = refusal.hidden.count;
+    of_card(named, refusal.reason, cards, DownCards { names, count })
 }

@@ -15,7 +15,7 @@ use sacn_source::Identity;
 use show_jobs::{identity, tell_seeming};
 use std::cell::RefCell;
 use std::io::ErrorKind;
-use system_devices::{CardSender, CidLock, Network, SystemInput};
+use system_devices::{CidLock, Network, SharedNetwork, SystemInput};
 use targets::TargetLink;
 
 /// Plays the lines of standard input.
@@ -99,8 +99,8 @@ pub fn link_of<'a>(
     rt: &'a HostRuntime,
     network: &'a RefCell<Network>,
     night: &Night,
-) -> TargetLink<CardSender<'a>> {
-    TargetLink::new(CardSender::new(rt, network), night.targets.copy())
+) -> TargetLink<SharedNetwork<'a>> {
+    TargetLink::new(SharedNetwork::new(rt, network), night.targets.copy())
 }
 
 /// How a night ended, with the packet that its network lost last.

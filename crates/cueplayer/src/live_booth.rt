@@ -46,7 +46,7 @@ impl<'a> LiveBooth<'a> {
         let ends_night = input.ends_night;
         let machine = LiveMachine {
             rt,
-            clock: NightClock::new(SystemClock::new(rt, start), 0),
+            clock: NightClock::new(SystemClock::new(rt, Some(start)), 0),
             input,
             night_record,
             screen,
@@ -90,7 +90,7 @@ impl<'a> LiveBooth<'a> {
     /// The night goes on by itself from now on, with this that was typed and is not answered yet.
     pub fn lead(&mut self, now: Instant, typed: ArrayVec<u8, 4096>, has_ended: bool) {
         let machine = &mut self.booth.machine;
-        machine.clock.clock.start = now;
+        machine.clock.clock.start = Some(now);
         machine.input.hold(typed, has_ended);
     }
 

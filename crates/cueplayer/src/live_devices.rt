@@ -17,7 +17,7 @@ use night_record::NightOpening;
 use remarks::{Failure, JobFault, no_lock, of_lock, of_missing, of_record, run_end};
 use std::cell::RefCell;
 use std::time::Instant;
-use system_devices::{CardSender, CidLock, Network, Pause, Record, RecordFile, TypedInput};
+use system_devices::{CidLock, Network, Pause, Record, RecordFile, SharedNetwork, TypedInput};
 use targets::TargetLink;
 
 // Told where the file system of a record has no locks.
@@ -56,7 +56,7 @@ pub struct NightDevices<'a> {
 #[derive(Drop)]
 pub struct Beginning<'a> {
     pub booth: LiveBooth<'a>,
-    pub link: TargetLink<CardSender<'a>>,
+    pub link: TargetLink<SharedNetwork<'a>>,
     pub network: &'a RefCell<Network>,
     /// For how long the record of a night that goes on, or of its main, had not been written, in
     /// milliseconds.

@@ -9,10 +9,10 @@ use cmd_live::{Ending, MainWatch};
 use devices::LinkFault;
 use live_machine::Came;
 use night_lines::{MainNight, Place, led_help_line, led_reminder_line, missing_line};
-use night_record::{LineFront, NightLines, RecordHead, kept_line, main_head};
+use night_record::{LineFront, NightLines, RecordHead, input_has_ended, kept_line, main_lines};
 use remarks::{JobFault, Refusal};
 use std::time::{Duration, Instant};
-use system_devices::AppendedLines;
+use system_devices::{AppendedLines, are_lines_there};
 
 // What is typed is waited for so long, in milliseconds, before the main's record is looked at
 // again.
@@ -47,11 +47,9 @@ impl<'w> MainRecord<'w> {
     ) -> Result<Self, JobFault> {
         let night = head_of(rt, bill)?;
         let opened = now(rt)?;
-        let Some((first, lines)) = record_lines(rt, words.file, words.patience.into())? else {
-            return Err(JobFault::Record(Refusal::no_main()));
-        };
-        match main_head(&night, first.as_slice()) {
-            Ok(head) => Ok(MainRecord {
+        let found = record_lines(rt, words.file, words.patience.into())?;
+        match main_lines(&night, found) {
+            Ok((head, lines)) => Ok(MainRecord {
                 words,
                 head,
                 lines,
@@ -63,11 +61,6 @@ impl<'w> MainRecord<'w> {
             }),
             Err(unfit) => Err(JobFault::Record(Refusal::of_unfit_main(&unfit, &night))),
         }
-    }
-
-    // Whether its name still leads to the record, and that has all lines that were given.
-    fn is_there(&self, rt: &HostRuntime) -> bool {
-        self.lines.is_there(rt, self.words.file)
     }
 
     /// The main, at a place of its night.
@@ -109,10 +102,7 @@ impl MainWatch for WatchedMain<'_, '_, '_> {
     }
 
     fn look(&mut self) -> Result<bool, LinkFault> {
-        match self.main.lines.look() {
-            Ok(()) => Ok(self.main.lines.has_line()),
-            Err(_) => Err(LinkFault),
-        }
+        self.main.lines.look().map_err(|_| LinkFault)
     }
 
     fn has_begun(&self) -> bool {
@@ -120,18 +110,18 @@ impl MainWatch for WatchedMain<'_, '_, '_> {
     }
 
     fn is_there(&mut self) -> bool {
-        self.main.is_there(self.rt)
+        are_lines_there(self.rt, self.main.words.file, &self.main.lines)
     }
 
     fn time_passed(&mut self) -> Result<Duration, LinkFault> {
-        match self.main.last.elapsed(self.rt) {
-            Ok(passed) => Ok(passed),
-            Err(_) => Err(LinkFault),
-        }
+        self.main.last.elapsed(self.rt).map_err(|_| LinkFault)
     }
 
     fn wait(&mut self) -> Result<Came, LinkFault> {
-        wait_for_typed(self.booth, self.main)
+        let main = &mut self.main;
+        let came = self.booth.wait_led(TURN, &mut main.typed)?;
+        main.input_ended = input_has_ended(main.input_ended, came);
+        Ok(came)
     }
 
     fn keep(&mut self, line: &LineFront) {
@@ -155,12 +145,4 @@ impl MainWatch for WatchedMain<'_, '_, '_> {
     fn remind(&mut self) {
         self.booth.screen().tell(led_reminder_line().as_bytes());
     }
-}
-
-fn wait_for_typed(booth: &mut LiveBooth<'_>, main: &mut MainRecord<'_>) -> Result<Came, LinkFault> {
-    let came = booth.wait_led(TURN, &mut main.typed)?;
-    if came == Came::End {
-        main.input_ended = true;
-    }
-    Ok(came)
 }

@@ -5,12 +5,12 @@ use crate::opening::head_of;
 use crate::reading::{HEAD_PATIENCE, record_lines};
 use cmd_live::PlayedRecord;
 use devices::LinkFault;
-use night_record::{LineFront, NightOpening, own_head};
+use night_record::{LineFront, NightOpening, own_lines};
 use remarks::{JobFault, Refusal, of_record};
 use std::io::ErrorKind;
 use std::thread::sleep;
 use std::time::Duration;
-use system_devices::{AppendedLines, RecordFault, RecordFile};
+use system_devices::{AppendedLines, RecordFault, RecordFile, are_lines_there};
 
 // It is looked so often, in milliseconds, whether the night is still played.
 const TURN: u64 = 10;
@@ -37,12 +37,10 @@ impl<'a> OwnRecord<'a> {
         name: &'a str,
     ) -> Result<Self, JobFault> {
         let night = head_of(rt, bill)?;
-        let Some((first, lines)) = record_lines(rt, name, HEAD_PATIENCE)? else {
-            return Err(JobFault::Record(Refusal::no_record()));
+        let lines = match own_lines(&night, record_lines(rt, name, HEAD_PATIENCE)?) {
+            Ok(lines) => lines,
+            Err(unfit) => return Err(JobFault::Record(Refusal::of_unfit(&unfit, &night))),
         };
-        if let Err(unfit) = own_head(&night, first.as_slice()) {
-            return Err(JobFault::Record(Refusal::of_unfit(&unfit, &night)));
-        }
         let file = RecordFile::watch(rt, name).map_err(|fault| of_record(name, fault))?;
         Ok(OwnRecord {
             rt,
@@ -59,21 +57,13 @@ impl<'a> OwnRecord<'a> {
     ///
     /// Why it cannot be kept.
     pub fn into_file(self) -> Result<(RecordFile, NightOpening), JobFault> {
-        let OwnRecord {
-            rt,
-            name,
-            lines,
-            file,
-            fault,
-        } = self;
-        let fault = match fault {
-            None if lines.is_there(rt, name) => {
-                return Ok((file, NightOpening::behind(lines.taken() as usize)));
-            }
-            None => RecordFault::File(ErrorKind::NotFound),
-            Some(fault) => fault,
-        };
-        Err(of_record(name, fault))
+        let is_there = are_lines_there(self.rt, self.name, &self.lines);
+        let given = self.lines.bytes_given();
+        let gone = RecordFault::File(ErrorKind::NotFound);
+        match NightOpening::behind_played(given, self.fault, is_there, gone) {
+            Ok(opening) => Ok((self.file, opening)),
+            Err(fault) => Err(of_record(self.name, fault)),
+        }
     }
 
     fn fail<T>(&mut self, fault: RecordFault) -> Result<T, LinkFault> {
@@ -95,7 +85,7 @@ impl PlayedRecord for OwnRecord<'_> {
 
     fn look(&mut self) -> Result<bool, LinkFault> {
         match self.lines.look() {
-            Ok(()) => Ok(self.lines.has_line()),
+            Ok(found) => Ok(found),
             Err(kind) => self.fail(RecordFault::File(kind)),
         }
     }

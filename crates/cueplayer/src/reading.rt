@@ -10,7 +10,7 @@ use night_record::FirstLines;
 use remarks::{Failure, JobFault};
 use show_reader::LONGEST_TEXT;
 use std::fs::File;
-use system_devices::{AppendedLines, DeviceFault};
+use system_devices::{AppendedLines, DeviceFault, lines_in_time};
 
 // One byte more than a show text or a script may have, so that a longer one is seen.
 const MOST: usize = LONGEST_TEXT + 1;
@@ -111,14 +111,9 @@ pub fn record_lines(
 ) -> Result<Option<(FirstLines, AppendedLines)>, Failure>
     ensures fault { IfErr result IsUnread }
 {
-    let mut lines = match AppendedLines::open(rt, name) {
-        Ok(Some(lines)) => lines,
-        Ok(None) => return Ok(None),
-        Err(DeviceFault::Device(_, kind)) => return Err(Failure::of_device(name, kind)),
-        Err(DeviceFault::Memory) => return Err(Failure::from(RunFault::Memory)),
-    };
-    match lines.first_two(rt, milliseconds) {
-        Some(head) => Ok(Some((head, lines))),
-        None => Ok(None),
+    match lines_in_time(rt, name, milliseconds) {
+        Ok(found) => Ok(found),
+        Err(DeviceFault::Device(_, kind)) => Err(Failure::of_device(name, kind)),
+        Err(DeviceFault::Memory) => Err(Failure::from(RunFault::Memory)),
     }
 }

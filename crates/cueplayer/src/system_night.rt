@@ -16,7 +16,7 @@ use devices::Link;
 use fade::{Fader, StepFader};
 use live_machine::{FollowEnd, MainLines, NightRole, NightSystem};
 use night_lines::{Place, Recording, leading_line, over_line};
-use night_record::{NightOpening, leading_moment, silence_of};
+use night_record::{Lead, NightOpening};
 use remarks::{Failure, JobFault, Refusal, run_end};
 use system_devices::RecordFile;
 
@@ -185,10 +185,10 @@ impl<'a> NightSystem for SystemNight<'a, '_> {
         booth: &mut Beginning<'a>,
     ) -> Result<(), JobFault> {
         let now = now(self.rt)?;
-        booth.passed = silence_of(now.duration_since(main.last));
+        let lead = Lead::behind(night.moment(), now.duration_since(main.last));
         main.last = now;
-        let moment = leading_moment(night.moment(), booth.passed);
-        let line = leading_line(moment, main.ending.words());
+        booth.passed = lead.silence;
+        let line = leading_line(lead.moment, main.ending.words());
         booth.booth.screen().tell(line.as_str().as_bytes());
         Ok(())
     }
@@ -234,7 +234,7 @@ fn follow_lines<'a, L: Link>(
     match end {
         Some(end) => Ok(end),
         None => {
-            let number = main.lines.number();
+            let number = main.lines.number;
             Err(JobFault::Record(Refusal::main_line(number)))
         }
     }
@@ -274,7 +274,7 @@ fn follow_record(
 {
     match night.follow(played, &mut Silent) {
         Pause::Other => {
-            let number = played.record.lines.number();
+            let number = played.record.lines.number;
             Err(JobFault::Record(Refusal::spare_line(number)))
         }
         Pause::Ended => Ok(()),

@@ -23,6 +23,15 @@ place_more f out front xs i d inside is =
     ∙ flat_map_more f front (take i numbered) (get_or numbered i (0, d))
     ∙ ap (λ l. front ++ flat_map f l) (sym (take_more numbered i (0, d) within))
 
+-- the same, where this is what is found there, and what is pushed for it
+pub pushed_more : {X A : Type 0} (f : ℕ × X → List A) (out front new pushed : List A) (xs : List X)
+    (i : ℕ) (d x : X) → i < length xs → out ≡ front ++ flat_map f (take i (enumerate_from 0 xs))
+    → x ≡ get_or xs i d → pushed ≡ f (i, x) → new ≡ out ++ pushed
+    → new ≡ front ++ flat_map f (take (i + 1) (enumerate_from 0 xs))
+pushed_more f out front new pushed xs i d x inside is at gives behind =
+    behind ∙ ap (λ l. out ++ l) (gives ∙ ap (λ x. f (i, x)) at)
+    ∙ place_more f out front xs i d inside is
+
 -- what all places give
 pub place_all : {X A : Type 0} (f : ℕ × X → List A) (out front : List A) (xs : List X) (i : ℕ)
     → length xs ≤ i → out ≡ front ++ flat_map f (take i (enumerate_from 0 xs))

@@ -1,9 +1,9 @@
 -- Over a night each notice tells something else than the one before.
 use Rattle.std.proofs.Common.{◌≡◌, ◌≢◌, ℕ, zero, suc, Bool, true, false, cond, List, [], ◌∷◌, refl}
 use Rattle.std.proofs.Common.{sym, ap, subst, ◌∙◌, arith, Some, None}
-use Rattle.std.proofs.lemmas.Bool.{eqb-true}
+use Rattle.std.proofs.lemmas.Bool.{eq-eqb, eqb-true}
 use Rattle.std.proofs.lemmas.List.Elements.{All-head, All-tail}
-use Rattle.std.specs.Prelude.{All}
+use Rattle.std.specs.Prelude.{All, nat_eq}
 use Rattle.link_notices.specs.declared.path.Trouble.{Trouble}
 use Rattle.link_notices.specs.declared.path.Trouble.TheVariants as trouble
 use Rattle.link_notices.specs.declared.source.SourceState.{SourceState}
@@ -16,6 +16,20 @@ use Rattle.link_notices.specs.Nights.{known_trouble, onto, told_path, told_sourc
 
 false_true : {b : Bool} → b ≡ false → b ≡ true → ⊥
 false_true f t = grind (arith, f, t)
+
+-- two that have one number are the same, where the number tells which one it is; and two that have
+-- different ones differ
+same : {X : Type 0} (number : X → ℕ) (numbered : ℕ → X) → ((a : X) → numbered (number a) ≡ a)
+    → (a b : X) → nat_eq (number a) (number b) ≡ true → a ≡ b
+same number numbered back a b h =
+    sym (back a) ∙ ap numbered (eqb-true (number a) (number b) h) ∙ back b
+
+is_itself : (n : ℕ) → nat_eq n n ≡ true
+is_itself n = eq-eqb n n refl
+
+differ : {X : Type 0} (number : X → ℕ) (a b : X) → nat_eq (number a) (number b) ≡ false → b ≢ a
+differ number a b h e =
+    false_true (subst (λ x. nat_eq (number a) (number x) ≡ false) e h) (is_itself (number a))
 
 -- ---- ways
 
@@ -33,20 +47,6 @@ at_number trouble.NoRoute = refl
 at_number trouble.OtherCard = refl
 at_number trouble.NoAnswer = refl
 
-are_same : (a b : Trouble) → same_trouble a b ≡ true → a ≡ b
-are_same a b h = sym (at_number a)
-    ∙ ap trouble_at (eqb-true (number_of_trouble a) (number_of_trouble b) h) ∙ at_number b
-
-is_itself : (a : Trouble) → same_trouble a a ≡ true
-is_itself trouble.None = refl
-is_itself trouble.NoRouteYet = refl
-is_itself trouble.NoRoute = refl
-is_itself trouble.OtherCard = refl
-is_itself trouble.NoAnswer = refl
-
-differ : (a b : Trouble) → same_trouble a b ≡ false → b ≢ a
-differ a b h e = false_true (subst (λ t. same_trouble a t ≡ false) e h) (is_itself a)
-
 turns : (was : Trouble) (looks : List PathLook)
     → AreTurns was (told_path was looks) (known_trouble was looks)
 turns was [] = refl
@@ -57,15 +57,15 @@ turns was (look ∷ looks) =
     (onto (cond b None (Some (record { was = was; is = is }))) (told_path is looks))
     (known_trouble is looks)) [
       | true ↦ λ e. subst (λ t. AreTurns t (told_path is looks) (known_trouble is looks))
-          (sym (are_same was is e)) later
-      | false ↦ λ e. (refl, differ was is e, later)
+          (sym (same number_of_trouble trouble_at at_number was is e)) later
+      | false ↦ λ e. (refl, differ number_of_trouble was is e, later)
     ] refl
 
 quiet : (was : Trouble) (looks : List PathLook) → All (λ look. look.has_link ≡ false) looks
     → told_path was looks ≡ []
 quiet was [] h = refl
 quiet was (look ∷ looks) h =
-    rw (All-head (λ look. look.has_link ≡ false) look looks h, is_itself was)
+    rw (All-head (λ look. look.has_link ≡ false) look looks h, is_itself (number_of_trouble was))
     (quiet was looks (All-tail (λ look. look.has_link ≡ false) look looks h))
 
 pub paths : PathsLaw
@@ -85,19 +85,6 @@ at_state source.NoLink = refl
 at_state source.Down = refl
 at_state source.Lost = refl
 
-is_state : (a : SourceState) → same_source a a ≡ true
-is_state source.Sends = refl
-is_state source.NoLink = refl
-is_state source.Down = refl
-is_state source.Lost = refl
-
-same_states : (a b : SourceState) → same_source a b ≡ true → a ≡ b
-same_states a b h = sym (at_state a)
-    ∙ ap state_at (eqb-true (number_of_source a) (number_of_source b) h) ∙ at_state b
-
-states_differ : (a b : SourceState) → same_source a b ≡ false → b ≢ a
-states_differ a b h e = false_true (subst (λ t. same_source a t ≡ false) e h) (is_state a)
-
 pub sources : SourcesLaw
 sources was [] = refl
 sources was (is ∷ looks) =
@@ -106,6 +93,6 @@ sources was (is ∷ looks) =
     (onto (cond b None (Some (record { was = was; is = is }))) (told_source is looks))
     (known_state is looks)) [
       | true ↦ λ e. subst (λ t. AreSourceTurns t (told_source is looks) (known_state is looks))
-          (sym (same_states was is e)) later
-      | false ↦ λ e. (refl, states_differ was is e, later)
+          (sym (same number_of_source state_at at_state was is e)) later
+      | false ↦ λ e. (refl, differ number_of_source was is e, later)
     ] refl

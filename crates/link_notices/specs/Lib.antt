@@ -6,3 +6,4 @@ pub mod Told
 pub mod Nights
 pub mod Looks
 pub mod Watches
+pub mod LookTimes

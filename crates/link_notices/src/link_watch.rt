@@ -1,8 +1,10 @@
 ghost use Rattle.std.specs.Prelude.{◌≡◌, ◌≤◌, ◌<◌, ◌+◌, ◌∷◌, ◌++◌, [], true, false, length, map};
-ghost use Rattle.std.specs.Prelude.{flat_map, None, Some};
+ghost use Rattle.std.specs.Prelude.{flat_map, ℕ, List, None, Option, Some};
+ghost use Rattle.std.specs.Duration.{as_nanos};
 ghost use Rattle.std.specs.List.{enumerate_from};
 ghost use Rattle.link_notices.specs.declared.look.NetworkLook.{NetworkLook as LookOf};
 ghost use Rattle.link_notices.specs.Looks.{path_look};
+ghost use Rattle.link_notices.specs.LookTimes.{IsTimedLook, look_time, with_reading};
 ghost use Rattle.link_notices.specs.Watches.{again_notices, is_look_due, look_notices};
 ghost use Rattle.link_notices.specs.Watches.{path_again, path_news, path_notice, path_told};
 ghost use Rattle.link_notices.specs.Watches.{path_watches, source_again, source_news};
@@ -15,7 +17,8 @@ use crate::notice::{LinkNotice, LinkNotices, PathNotice, SourceNotice};
 use crate::path::{PathState, Trouble, trouble_of};
 use crate::watch::{PathWatch, SourceWatch};
 use arrayvec::ArrayVec;
-use live_machine::TURN;
+use live_machine::{MachineClock, TURN};
+use std::time::Duration;
 use targets::MOST_TARGETS;
 
 type SourceWatches = ArrayVec<SourceWatch, MOST_SOURCES>;
@@ -89,6 +92,23 @@ impl<N: NightNetwork> LinkWatch<N> {
         notices
     }
 
+    /// Looks as [`LinkWatch::look`] does, at the time that this clock shows. Where it cannot be read,
+    /// or its milliseconds do not fit, there is no look.
+    pub fn look_by<C: MachineClock>(&mut self, clock: &mut C) -> LinkNotices
+        ensures clock { C.tells clock.new → C.tells clock.old }
+        ensures network { N.tells self.new.network → N.tells self.old.network }
+        ensures looked { (passed : Option ℕ) × (looks : List LookOf)
+            × IsTimedLook (look_time passed) self.old self.new result.items looks
+            × (C.tells clock.new → C.tape clock.new ≡ with_reading (C.tape clock.old) passed)
+            × (N.tells self.new.network
+            → N.looks self.new.network ≡ N.looks self.old.network ++ looks) }
+    {
+        match time_by(clock) {
+            Some(now) => self.look(now),
+            None => LinkNotices::new(),
+        }
+    }
+
     /// What is told once more: what is wrong, of the addresses and the ways of the last look.
     pub fn again(&self) -> LinkNotices
         ensures { result.items ≡ again_notices self.now.sources.items self.now.paths.items
@@ -99,6 +119,24 @@ impl<N: NightNetwork> LinkWatch<N> {
         paths_again(self.paths.as_slice(), &self.found, &mut notices);
         notices
     }
+}
+
+// The milliseconds that a clock shows.
+fn time_by<C: MachineClock>(clock: &mut C) -> Option<u64>
+    ensures told { C.tells clock.new → C.tells clock.old }
+    ensures time { (passed : Option ℕ) × (result ≡ look_time passed)
+        × (C.tells clock.new → C.tape clock.new ≡ with_reading (C.tape clock.old) passed) }
+{
+    match clock.time_passed() {
+        Ok(passed) => milliseconds_of(passed),
+        Err(_) => None,
+    }
+}
+
+fn milliseconds_of(passed: Duration) -> Option<u64>
+    ensures { result ≡ look_time (Some (as_nanos passed)) }
+{
+    u64::try_from(passed.as_millis()).ok()
 }
 
 // Each look begins a turn.

@@ -1,5 +1,5 @@
 ghost use Rattle.std.specs.Prelude.{◌≡◌};
-ghost use Rattle.link_notices.specs.Offers.{sending};
+ghost use Rattle.link_notices.specs.Offers.{offer_of};
 
 use crate::{PathState, SourceState};
 use std::io::ErrorKind;
@@ -21,7 +21,7 @@ impl Sending {
     /// Decides how a packet is offered to the system: by how its host is reached, how the address
     /// is that it is sent from, if it has one, and whether any card will do.
     pub fn choose(path: &PathState, source: Option<SourceState>, is_any_route: bool) -> Sending
-        ensures { result ≡ sending path.now source is_any_route }
+        ensures { result ≡ offer_of path.now source is_any_route }
     {
         let Some(source) = source else {
             return Sending::Unbound;

@@ -15,15 +15,15 @@ abbrev pub is_leaf : List ℕ → Bool
 is_leaf text = bytes_eq (field 0 text) (codes "|--")
 
 -- a line says that the address of its leaf is this machine's: `/32 host LOCAL`
-abbrev pub is_own : List ℕ → Bool
-is_own text = bytes_eq (field 0 text) (codes "/32")
+abbrev pub is_own_line : List ℕ → Bool
+is_own_line text = bytes_eq (field 0 text) (codes "/32")
     && (bytes_eq (field 1 text) (codes "host") && bytes_eq (field 2 text) (codes "LOCAL"))
 
 -- what a line says
 abbrev pub Says : List ℕ → TreeLine → Type 0
 Says text (line.Leaf address) = (is_leaf text ≡ true) × IsIpv4Text (field 1 text) address
-Says text line.Own = is_own text ≡ true
-Says text line.Other = (is_own text ≡ false)
+Says text line.Own = is_own_line text ≡ true
+Says text line.Other = (is_own_line text ≡ false)
     × (is_leaf text ≡ true → (address : Ipv4Addr) → IsIpv4Text (field 1 text) address → ⊥)
 
 -- the leaf that was read last, and the machine's addresses so far

@@ -1,6 +1,6 @@
 ghost use Rattle.std.specs.Prelude.{◌≡◌, []};
 ghost use Rattle.network_tables.specs.Fields.{field};
-ghost use Rattle.network_tables.specs.Trees.{Says, found_after, found_seen, is_leaf, is_own};
+ghost use Rattle.network_tables.specs.Trees.{Says, found_after, found_seen, is_leaf, is_own_line};
 ghost use Rattle.network_tables.specs.Trees.{with_address};
 
 use crate::fields::field;
@@ -24,7 +24,7 @@ impl TreeLine {
     pub fn read(line: &[u8]) -> TreeLine
         ensures { Says line.now result }
     {
-        if is_own(line) {
+        if is_own_line(line) {
             return TreeLine::Own;
         }
         if !is_leaf(line) {
@@ -37,8 +37,8 @@ impl TreeLine {
     }
 }
 
-fn is_own(line: &[u8]) -> bool
-    ensures { result ≡ is_own line.now }
+fn is_own_line(line: &[u8]) -> bool
+    ensures { result ≡ is_own_line line.now }
 {
     field(line, 0) == b"/32".as_slice()
         && field(line, 1) == b"host".as_slice()

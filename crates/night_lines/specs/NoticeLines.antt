@@ -1,10 +1,9 @@
 -- What is told of the notices of a night's network, by the places that they name.
-use Rattle.std.specs.Prelude.{ℕ, if◌then◌else◌, List, Option, None}
+use Rattle.std.specs.Prelude.{ℕ, List, Option}
 use Rattle.std.specs.Prelude.{option_and_then, option_map, slice_get}
 use Rattle.arrayvec.specs.declared.array_string.ArrayString.{ArrayString}
 use Rattle.network_tables.specs.Routes.{route_seen}
 use Rattle.network_tables.specs.declared.route.Route.{Route}
-use Rattle.link_notices.specs.Told.{is_first_route}
 use Rattle.link_notices.specs.declared.notice.LinkNotice.{LinkNotice}
 use Rattle.link_notices.specs.declared.notice.LinkNotice.TheVariants as notice
 use Rattle.link_notices.specs.declared.path.CardAddress.{CardAddress}
@@ -13,7 +12,7 @@ use Rattle.night_lines.specs.Notices.{path_notice_line, source_notice_line}
 use Rattle.night_lines.specs.Sources.{card_address}
 use Rattle.night_lines.specs.declared.night_source.NightSource.{NightSource}
 use Rattle.night_lines.specs.declared.notices.NoticeNetwork.{NoticeNetwork}
-use Rattle.night_lines.specs.declared.notices.RoutedNotice.{RoutedNotice}
+use Rattle.packet_paths.specs.declared.routed_notices.RoutedNotice.{RoutedNotice}
 use Rattle.night_lines.specs.declared.path_notices.Way.{Way}
 
 -- the address at a place, and its card
@@ -45,10 +44,3 @@ notice_line moment network routed = line_of moment network routed.route routed.n
 
 abbrev pub line_seen : ArrayString 156 → List ℕ
 line_seen line = line.bytes
-
--- the host of a notice that a route leads there for the first time
-abbrev pub host_to_route : List Path → LinkNotice → Option (List ℕ)
-host_to_route paths (notice.Source place news) = None
-host_to_route paths (notice.Path place news) =
-    if is_first_route news.was news.is
-    then option_map (λ path. path.host) (slice_get paths place) else None

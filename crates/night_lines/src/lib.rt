@@ -34,7 +34,7 @@ pub use follow::{
     missing_line, over_line, take_line,
 };
 pub use night_source::{NightSource, NightSources};
-pub use notices::{NoticeNetwork, RoutedNotice, RoutedNotices, host_to_route, tell_notices};
+pub use notices::{NoticeNetwork, tell_notices};
 pub use other_cards::{OtherCardsLine, other_cards_line};
 pub use path_notices::{Way, path_notice_line};
 pub use place::Place;

@@ -5,22 +5,8 @@ use crate::night_source::NightSource;
 use crate::path_notices::{Way, path_notice_line};
 use crate::source_notices::{NoticeLine, source_notice_line};
 use crate::teller::LineTeller;
-use arrayvec::ArrayVec;
 use link_notices::{CardAddress, LinkNotice};
-use network_tables::Route;
-use packet_paths::Path;
-
-/// A notice of a night's network, and the route that leads now to the host that it is of.
-#[derive(Clone, Copy, Debug, Default)]
-pub struct RoutedNotice {
-    pub notice: LinkNotice,
-    /// Where one was looked for: it is told of a host to which there was no route before, and
-    /// [`host_to_route`] names that.
-    pub route: Option<Route>,
-}
-
-/// Notices, the first first: there is room for one of each address and each way.
-pub type RoutedNotices = ArrayVec<RoutedNotice, 72>;
+use packet_paths::{Path, RoutedNotice};
 
 /// The addresses that the packets of a night come from, and the ways to their hosts. Notices name
 /// both by their places.
@@ -47,19 +33,6 @@ impl NoticeNetwork<'_> {
     {
         let source = self.sources.get(place?)?;
         Some(source.card_address())
-    }
-}
-
-/// The host whose route is told with a notice: that of the way that the notice is of, where there
-/// was no route so far, and now there is one.
-pub fn host_to_route(notice: &LinkNotice, paths: &[Path]) -> Option<[u8; 4]>
-    ensures { result ≡ spec.host_to_route paths.now notice.now }
-{
-    match *notice {
-        LinkNotice::Path { place, notice } if notice.is_first_route() => {
-            Some(paths.get(place)?.host)
-        }
-        _ => None,
     }
 }
 

@@ -1,7 +1,7 @@
 -- What lines stand for when bytes were looked at.
 use Rattle.std.proofs.Common.{◌≡◌, ℕ, ◌+◌, ◌-◌, ◌<◌, ◌≤◌, List}
 use Rattle.std.proofs.Common.{[], ◌∷◌, ◌++◌, map, length, take, drop}
-use Rattle.std.proofs.Common.{Bool, true, false, cond, leb, ◌^◌, subst}
+use Rattle.std.proofs.Common.{Bool, true, false, cond, leb, min, ◌^◌, subst}
 use Rattle.std.proofs.Common.{sym, ap, ◌∙◌, arith, append_assoc, length-append}
 use Rattle.std.specs.List.{slice_range}
 use Rattle.std.proofs.lemmas.Bool.Decides.{nat_tests}
@@ -10,7 +10,7 @@ use Rattle.std.proofs.lemmas.List.{length-take, length-take-le, take_min}
 use Rattle.memchr.specs.Find.{NoneBefore, Nowhere, Passes, is_byte}
 use Rattle.ascii_text.specs.Lines.{Cut, cut_of}
 use Rattle.night_record.specs.WholeLines.{front_of, line_fronts, whole_length, whole_lines}
-use Rattle.night_record.specs.Coming.{HasLooked, Keeps, StandsFor, part_to_keep}
+use Rattle.night_record.specs.Coming.{HasLooked, KeepsPart, StandsFor, part_to_keep}
 use Rattle.night_record.specs.Coming.{bytes_given, unseen_bytes}
 use Rattle.night_record.specs.declared.lines.NightLines.{NightLines}
 use Rattle.night_record.proofs.Ends.{around, no_newline, none_before}
@@ -127,30 +127,34 @@ within m n h = grind (arith, nat_tests)
 beyond : (m n : ℕ) → n < m → leb m n ≡ false
 beyond m n h = grind (arith, nat_tests)
 
--- whether what came is kept whole, by the line that began
+-- whether what came is kept whole, by the line that began: of it stands there what came behind the
+-- last LF, as far as it is kept
+rest_begun : (lines : NightLines) (text : List ℕ) (given : List (List ℕ)) → unseen_bytes lines ≡ []
+    → StandsFor lines text given
+    → length lines.line.items ≡ min 201 (length (cut_of text).rest)
+rest_begun lines text given none s =
+    let all : text ≡ s.looked_at = s.came
+    ∙ (ap (λ u. s.looked_at ++ u) none ∙ append-nil s.looked_at) in
+    ap length s.begun ∙ (length-take 201 (cut_of s.looked_at).rest
+    ∙ ap (λ t. min 201 (length (cut_of t).rest)) (sym all))
+
 pub keeps_whole : (old new : NightLines) → unseen_bytes old ≡ []
     → ((text : List ℕ) (given : List (List ℕ)) → length text < 2 ^ 64 → StandsFor old text given
     → StandsFor new (whole_lines text) given)
-    → length old.line.items ≤ 200 → Keeps true old new
+    → length old.line.items ≤ 200 → KeepsPart true old new
 keeps_whole old new none h few text given small s =
-    let all : text ≡ s.looked_at = s.came
-    ∙ (ap (λ u. s.looked_at ++ u) none ∙ append-nil s.looked_at) in
-    let rest = ap (λ t. length (cut_of t).rest) all in
-    let front = ap length s.begun ∙ length-take 201 (cut_of s.looked_at).rest in
     let is : leb (length (cut_of text).rest) 200 ≡ true
-    = within (length (cut_of text).rest) 200 (omega (arith, rest, front)) in
+    = within (length (cut_of text).rest) 200 (omega (arith, rest_begun old text given none s, few))
+    in
     subst (λ b. StandsFor new (cond b (whole_lines text) text) given) (sym is)
     (h text given small s)
 
-pub keeps_long : (old new : NightLines) → unseen_bytes old ≡ [] → Keeps false old new
-    → 201 ≤ length old.line.items → Keeps true old new
+pub keeps_long : (old new : NightLines) → unseen_bytes old ≡ [] → KeepsPart false old new
+    → 201 ≤ length old.line.items → KeepsPart true old new
 keeps_long old new none h long text given small s =
-    let all : text ≡ s.looked_at = s.came
-    ∙ (ap (λ u. s.looked_at ++ u) none ∙ append-nil s.looked_at) in
-    let rest = ap (λ t. length (cut_of t).rest) all in
-    let front = ap length s.begun ∙ length-take 201 (cut_of s.looked_at).rest in
     let is : leb (length (cut_of text).rest) 200 ≡ false
-    = beyond (length (cut_of text).rest) 200 (omega (arith, rest, front)) in
+    = beyond (length (cut_of text).rest) 200 (omega (arith, rest_begun old text given none s, long))
+    in
     subst (λ b. StandsFor new (cond b (whole_lines text) text) given) (sym is)
     (h text given small s)
 
@@ -163,7 +167,7 @@ from_front block seen came none =
 
 -- bytes of a record came
 pub has_looked : (is_file : Bool) (old mid new : NightLines) (more record_text : List ℕ)
-    → Keeps is_file old mid → unseen_bytes mid ≡ [] → mid.seen ≡ 0 → unseen_bytes new ≡ more
+    → KeepsPart is_file old mid → unseen_bytes mid ≡ [] → mid.seen ≡ 0 → unseen_bytes new ≡ more
     → more ≡ take new.came (drop mid.place record_text)
     → new.line ≡ mid.line → new.place ≡ mid.place → new.seen ≡ mid.seen
     → bytes_given new ≡ bytes_given mid → HasLooked is_file old new more record_text

@@ -48,8 +48,8 @@ part_to_keep is_file text =
     if is_file && nat_le (length (cut_of text).rest) 200 then whole_lines text else text
 
 -- whatever came before, that of it counts, and the same lines were given
-abbrev pub Keeps : Bool → NightLines → NightLines → Type 0
-Keeps is_file old new = (text : List ℕ) (given : List (List ℕ)) → length text < 2 ^ 64
+abbrev pub KeepsPart : Bool → NightLines → NightLines → Type 0
+KeepsPart is_file old new = (text : List ℕ) (given : List (List ℕ)) → length text < 2 ^ 64
     → StandsFor old text given → StandsFor new (part_to_keep is_file text) given
 
 -- whatever came before, these bytes came behind what of it counts, and they stand there in the

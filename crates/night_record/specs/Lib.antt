@@ -4,10 +4,13 @@ pub mod Unfit
 pub mod Opening
 pub mod Asked
 pub mod Silence
+pub mod TypedInput
 pub mod Head
 pub mod Difference
 pub mod Reading
 pub mod Moments
 pub mod HeadWait
+pub mod RecordKinds
+pub mod RecordLines
 pub mod NightOpening
 pub mod MemoryLines

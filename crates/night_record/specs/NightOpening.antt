@@ -1,5 +1,5 @@
 -- What a night does with its record when it begins.
-use Rattle.std.specs.Prelude.{◌≡◌, ◌&&◌, ℕ, Bool, List, [], ◌++◌, length, codes}
+use Rattle.std.specs.Prelude.{◌≡◌, ◌&&◌, ℕ, Bool, true, false, List, [], ◌++◌, length, codes}
 use Rattle.std.specs.Prelude.{Option, Some, None, Result, Ok, Err, if◌then◌else◌, nat_le, nat_lt}
 use Rattle.std.specs.List.{slice_range}
 use Rattle.arrayvec.specs.declared.array_vec.ArrayVec.{ArrayVec}
@@ -37,3 +37,11 @@ Opens night text None lines = IsOpening night text (Ok (GoesOn lines))
 abbrev pub IsNightOpening : RecordHead → List ℕ → Result NightOpening Unfit → Type 0
 IsNightOpening night text (Ok opening) = Opens night text opening.head opening.lines
 IsNightOpening night text (Err unfit) = IsOpening night text (Err unfit)
+
+-- a night goes on behind so many bytes of a record that another process played, where nothing failed
+-- and the record is still there
+abbrev pub opening_behind : {F : Type 0} → ℕ → Option F → Bool → F → Result NightOpening F
+opening_behind given (Some fault) is_there gone = Err fault
+opening_behind given None true gone =
+    Ok record { head = None; lines = record { from = 0; to = given } }
+opening_behind given None false gone = Err gone

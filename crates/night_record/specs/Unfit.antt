@@ -1,5 +1,7 @@
 -- Whose night a record is, and whether it fits.
-use Rattle.std.specs.Prelude.{◌≡◌, ◌≢◌, List, ℕ, true, false, Some, None, Result, Ok, Err, bytes_eq}
+use Rattle.std.specs.Prelude.{◌≡◌, ◌≢◌, List, ℕ, true, false, Option, Some, None, Result}
+use Rattle.std.specs.Prelude.{Ok, Err, bytes_eq}
+use Rattle.arrayvec.specs.declared.array_vec.ArrayVec.{ArrayVec}
 use Rattle.night_record.specs.Head.{HasForm, IsHead, head_text}
 use Rattle.night_record.specs.Difference.{difference}
 use Rattle.night_record.specs.declared.head.RecordHead.{RecordHead}
@@ -42,3 +44,20 @@ IsMain night line (Err (main.Other part.Base head)) = SpellsHead line head
 IsMain night line (Err (main.Other _ head)) = ⊥
 IsMain night line (Err main.SameCid) = (head : RecordHead) × SpellsHead line head
     × IsOfShow head night × (bytes_eq head.cid night.cid ≡ true)
+
+-- a night takes up the lines that were found behind a head which is its own; where no head was found,
+-- there is no record
+abbrev pub TakesUpFound : {L : Type 0} → RecordHead → Option (ArrayVec ℕ 403 (Unit {0}) × L)
+    → Result L Unfit → Type 0
+TakesUpFound night None result = result ≡ Err own.NoRecord
+TakesUpFound night (Some found) (Ok lines) =
+    (lines ≡ found.1) × ((head : RecordHead) × IsOwn night found.0.items (Ok head))
+TakesUpFound night (Some found) (Err unfit) = IsOwn night found.0.items (Err unfit)
+
+-- a night follows the lines that were found behind the head of a main
+abbrev pub FollowsFound : {L : Type 0} → RecordHead → Option (ArrayVec ℕ 403 (Unit {0}) × L)
+    → Result (RecordHead × L) UnfitMain → Type 0
+FollowsFound night None result = result ≡ Err main.NoRecord
+FollowsFound night (Some found) (Ok main) =
+    (main.1 ≡ found.1) × IsMain night found.0.items (Ok main.0)
+FollowsFound night (Some found) (Err unfit) = IsMain night found.0.items (Err unfit)

@@ -1,6 +1,6 @@
 ghost use Rattle.std.specs.Prelude.{◌≡◌};
 ghost use Rattle.ascii_text.specs.Text.{words_of};
-ghost use Rattle.night_record.specs.Asked.{asked_by, asked_for};
+ghost use Rattle.night_record.specs.Asked.{asked_by, asked_by_word};
 
 use ascii_text::{Words, same_word};
 
@@ -31,7 +31,7 @@ impl Asked {
     }
 
     fn by(word: &[u8]) -> Asked
-        ensures { result ≡ asked_for word.now }
+        ensures { result ≡ asked_by_word word.now }
     {
         if same_word(word, b"take") {
             Asked::Take

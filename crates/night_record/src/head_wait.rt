@@ -1,4 +1,4 @@
-ghost use Rattle.std.specs.Prelude.{◌≡◌, ◌≤◌, ◌-◌, ◌++◌, ◌∷◌, [], List, IfOk, IfSome, IsNone};
+ghost use Rattle.std.specs.Prelude.{◌≡◌, ◌≤◌, ◌-◌, ◌/◌, ◌++◌, ◌∷◌, [], List, IfOk, IfSome, IsNone};
 ghost use Rattle.std.specs.Prelude.{OnErr, option_map};
 ghost use Rattle.night_record.specs.HeadWait.{AreHeadSteps, IsLineMissing, line_after};
 ghost use Rattle.night_record.specs.declared.head_wait.LineStep.{LineStep as StepOf};
@@ -7,6 +7,9 @@ ghost use Rattle.night_record.specs.declared.head_wait.LineStep.TheVariants.{Fai
 use crate::head_lines::{FirstLines, first_lines};
 use crate::lines::LineFront;
 use devices::LinkFault;
+
+/// It is looked for a line again after so many milliseconds.
+pub const LOOK_TURN: u64 = 5;
 
 /// A step of a wait for lines.
 #[derive(Debug, Drop)]
@@ -55,8 +58,19 @@ struct LineInTime {
     turns_left: u64,
 }
 
-/// The first two lines of a record without the last LF, if they come within so many turns in all.
-pub fn head_within<L: ComingLines>(lines: &mut L, turns: u64) -> Option<FirstLines>
+/// The first two lines of a record without the last LF, if they come within so many milliseconds in
+/// all: a turn takes [`LOOK_TURN`] of them.
+pub fn head_within<L: ComingLines>(lines: &mut L, milliseconds: u64) -> Option<FirstLines>
+    ensures told { L.tells lines.new → L.tells lines.old }
+    ensures steps { L.tells lines.new → (steps : List StepOf)
+        × AreHeadSteps (milliseconds / 5) (option_map (λ head. head.items) result) steps
+        × (L.steps lines.new ≡ L.steps lines.old ++ steps) }
+{
+    head_in_turns(lines, milliseconds / LOOK_TURN)
+}
+
+// The first two lines, if they come within so many turns.
+fn head_in_turns<L: ComingLines>(lines: &mut L, turns: u64) -> Option<FirstLines>
     ensures told { L.tells lines.new → L.tells lines.old }
     ensures steps { L.tells lines.new → (steps : List StepOf)
         × AreHeadSteps turns (option_map (λ head. head.items) result) steps

@@ -2,7 +2,8 @@
 //! by what stands in it.
 //!
 //! [`NightLines`] parts what comes, of a record that another process writes ([`Growth`]) or of what
-//! is typed, in lines. [`RecordOpening`] says whether a night begins in a record or goes on behind
+//! is typed, in lines; [`RecordLines`] numbers those of a record, and [`RecordKind`] says how one is
+//! opened and read. [`RecordOpening`] says whether a night begins in a record or goes on behind
 //! it, and what of it is kept; [`own_head`] and [`main_head`] whether it may be taken up or
 //! followed; [`Asked`] what is typed meanwhile; and [`is_silent`] when a main is followed no more.
 //!
@@ -40,7 +41,10 @@ mod moment;
 mod night_opening;
 mod opening;
 mod read;
+mod record_kind;
+mod record_lines;
 mod silence;
+mod typed_input;
 mod unfit;
 
 pub use asked::Asked;
@@ -48,10 +52,13 @@ pub use difference::Difference;
 pub use growth::Growth;
 pub use head::{HeadLines, HeadName, RecordHead};
 pub use head_lines::{FirstLines, first_lines, head_in, kept_line};
-pub use head_wait::{ComingLines, LineStep, head_within};
+pub use head_wait::{ComingLines, LOOK_TURN, LineStep, head_within};
 pub use lines::{LineFront, NightLines};
 pub use moment::{line_moment, where_moment};
 pub use night_opening::NightOpening;
 pub use opening::{RecordOpening, TakenUp};
-pub use silence::{is_silent, leading_moment, silence_of};
-pub use unfit::{Unfit, UnfitMain, main_head, own_head};
+pub use record_kind::{RecordKind, RecordRead, count_of_failed_read};
+pub use record_lines::RecordLines;
+pub use silence::{Lead, is_silent, silence_of};
+pub use typed_input::input_has_ended;
+pub use unfit::{Unfit, UnfitMain, main_head, main_lines, own_head, own_lines};

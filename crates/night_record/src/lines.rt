@@ -36,7 +36,7 @@ impl NightLines {
     ghost use Rattle.ascii_text.specs.Text.{is_newline};
     ghost use Rattle.live_machine.specs.Input.{brought_by, fault};
     ghost use Rattle.live_machine.specs.declared.input.Came.TheVariants.{Nothing};
-    ghost use Rattle.night_record.specs.Coming.{HasLooked, Keeps, StandsFor, StandsForMore};
+    ghost use Rattle.night_record.specs.Coming.{HasLooked, KeepsPart, StandsFor, StandsForMore};
     ghost use Rattle.night_record.specs.Coming.{rest_in, bytes_given, typed_bytes, unseen_bytes};
     ghost use Rattle.night_record.specs.WholeLines.{line_fronts, whole_lines};
 
@@ -156,7 +156,7 @@ impl NightLines {
         ensures ok { OnOk result (unseen_bytes self.old ≡ [] → G.tells written.new
             → HasLooked (G.is_file written.old) self.old self.new (G.latest written.new)
             (G.text written.new)) }
-        ensures err { OnErr result (Keeps (G.is_file written.old) self.old self.new) }
+        ensures err { OnErr result (KeepsPart (G.is_file written.old) self.old self.new) }
     {
         if self.seen < self.came {
             return Ok(());
@@ -174,7 +174,7 @@ impl NightLines {
     // The next bytes come to the front of the block: of a file those behind the whole lines.
     fn make_room(&mut self, is_file: bool)
         requires { unseen_bytes self.old ≡ [] }
-        ensures keeps { Keeps is_file self.old self.new }
+        ensures keeps { KeepsPart is_file self.old self.new }
         ensures none { unseen_bytes self.new ≡ [] }
         ensures front { (self.new.seen ≡ 0) × (self.new.came ≡ 0) }
     {
@@ -187,7 +187,7 @@ impl NightLines {
 
     fn read_again(&mut self)
         requires { unseen_bytes self.old ≡ [] }
-        ensures keeps { Keeps true self.old self.new }
+        ensures keeps { KeepsPart true self.old self.new }
         ensures none { unseen_bytes self.new ≡ [] }
         ensures front { (self.new.seen ≡ 0) × (self.new.came ≡ 0) }
     {
@@ -216,7 +216,7 @@ impl NightLines {
     fn begin_block(&mut self)
         requires { unseen_bytes self.old ≡ [] }
         ensures more { StandsForMore self.old [] self.new }
-        ensures keeps { Keeps false self.old self.new }
+        ensures keeps { KeepsPart false self.old self.new }
         ensures none { unseen_bytes self.new ≡ [] }
         ensures front { (self.new.seen ≡ 0) × (self.new.came ≡ 0) }
     {

@@ -1,6 +1,6 @@
 ghost use Rattle.std.specs.Prelude.{◌≡◌, None};
 ghost use Rattle.night_record.specs.NightOpening.{IsNightOpening, goes_on, has_cut_line};
-ghost use Rattle.night_record.specs.NightOpening.{lines_of_night, no_lines};
+ghost use Rattle.night_record.specs.NightOpening.{lines_of_night, no_lines, opening_behind};
 
 use crate::head::{HeadLines, RecordHead};
 use crate::opening::{RecordOpening, TakenUp};
@@ -33,6 +33,27 @@ impl NightOpening {
                 from: 0,
                 to: length,
             },
+        }
+    }
+
+    /// Behind the bytes that were given in lines of a record which another process played, by what
+    /// failed meanwhile, and whether the record is still there.
+    ///
+    /// # Errors
+    ///
+    /// What failed; or that the record is gone.
+    pub fn behind_played<F: Drop>(
+        given: u64,
+        failure: Option<F>,
+        is_there: bool,
+        gone: F,
+    ) -> Result<NightOpening, F>
+        ensures { result ≡ opening_behind given failure is_there gone }
+    {
+        match failure {
+            Some(fault) => Err(fault),
+            None if is_there => Ok(NightOpening::behind(given as usize)),
+            None => Err(gone),
         }
     }
 

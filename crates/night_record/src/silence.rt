@@ -1,6 +1,6 @@
 ghost use Rattle.std.specs.Prelude.{◌≡◌};
 ghost use Rattle.std.specs.Duration.{as_nanos};
-ghost use Rattle.night_record.specs.Silence.{is_record_silent, leading_moment, silence_of};
+ghost use Rattle.night_record.specs.Silence.{is_record_silent, lead_behind, silence_of};
 
 use std::time::Duration;
 
@@ -19,12 +19,27 @@ pub fn is_silent(passed: Duration, patience: u32) -> bool
     passed.as_millis() >= u128::from(patience)
 }
 
-/// The moment at which a night leads, by that of the newest line and how long it was silent behind
-/// it, all in milliseconds: ten seconds of it count, as of a gap behind a record.
-pub fn leading_moment(newest: u64, silence: u64) -> u64
-    ensures { result ≡ leading_moment newest silence }
-{
-    newest.saturating_add(silence.min(LONGEST))
+/// When a night leads that followed a main.
+#[derive(Clone, Copy, Debug, PartialEq, Eq)]
+pub struct Lead {
+    /// How long the main was silent, in milliseconds.
+    pub silence: u64,
+    /// The moment from which the night goes on, in milliseconds.
+    pub moment: u64,
+}
+
+impl Lead {
+    /// By the moment of the newest line, in milliseconds, and how long ago that came: ten seconds
+    /// of it count, as of a gap behind a record.
+    pub fn behind(newest: u64, passed: Duration) -> Lead
+        ensures { result ≡ lead_behind newest (as_nanos passed) }
+    {
+        let silence = silence_of(passed);
+        Lead {
+            silence,
+            moment: newest.saturating_add(silence.min(LONGEST)),
+        }
+    }
 }
 
 const LONGEST: u64 = 10_000;

@@ -1,12 +1,13 @@
-ghost use Rattle.night_record.specs.Unfit.{IsMain, IsOwn};
+ghost use Rattle.night_record.specs.Unfit.{FollowsFound, IsMain, IsOwn, TakesUpFound};
 
 use crate::difference::Difference;
 use crate::head::RecordHead;
+use crate::head_lines::FirstLines;
 
 /// Why a night does not go on by a record.
 #[derive(Debug, Drop)]
 pub enum Unfit {
-    /// No night began it.
+    /// No night began it, or its head did not come in time.
     NoRecord,
     /// Its head is that of another night: the first part that differs.
     Other(Difference, RecordHead),
@@ -15,7 +16,7 @@ pub enum Unfit {
 /// Why a night does not follow a record.
 #[derive(Debug, Drop)]
 pub enum UnfitMain {
-    /// No night began it.
+    /// No night began it, or its head did not come in time.
     NoRecord,
     /// It is of another show, or its universes have other numbers.
     Other(Difference, RecordHead),
@@ -37,6 +38,44 @@ pub fn own_head(night: &RecordHead, lines: &[u8]) -> Result<RecordHead, Unfit>
     match head.differs_from(night) {
         Some(difference) => Err(Unfit::Other(difference, head)),
         None => Ok(head),
+    }
+}
+
+/// The lines of the record that a night takes up, by its head, where that was found in time.
+///
+/// # Errors
+///
+/// Where no head was found, or not the head of this night.
+pub fn own_lines<L: Drop>(night: &RecordHead, found: Option<(FirstLines, L)>) -> Result<L, Unfit>
+    ensures { TakesUpFound night.now found result }
+{
+    let Some((head, lines)) = found else {
+        return Err(Unfit::NoRecord);
+    };
+    match own_head(night, head.as_slice()) {
+        Ok(_) => Ok(lines),
+        Err(unfit) => Err(unfit),
+    }
+}
+
+/// The head and the lines of the record of a main that a night follows, where its head was found in
+/// time.
+///
+/// # Errors
+///
+/// Where no head was found, or none that can be followed.
+pub fn main_lines<L: Drop>(
+    night: &RecordHead,
+    found: Option<(FirstLines, L)>,
+) -> Result<(RecordHead, L), UnfitMain>
+    ensures { FollowsFound night.now found result }
+{
+    let Some((head, lines)) = found else {
+        return Err(UnfitMain::NoRecord);
+    };
+    match main_head(night, head.as_slice()) {
+        Ok(head) => Ok((head, lines)),
+        Err(unfit) => Err(unfit),
     }
 }
 

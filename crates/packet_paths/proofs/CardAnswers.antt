@@ -1,6 +1,8 @@
 -- What follows from the answers of cards, and one card more.
 use Rattle.std.proofs.Common.{◌≡◌, ℕ, ◌+◌, ◌<◌, Bool, cond, List, [], ◌∷◌, ◌++◌}
-use Rattle.std.proofs.Common.{◌∙◌, ap, append-nil, get_or, length, subst, sym, take}
+use Rattle.std.proofs.Common.{◌∙◌, ap, append-nil, append_assoc, get_or, length, refl, subst}
+use Rattle.std.proofs.Common.{sym, take}
+use Rattle.arrayvec.specs.declared.array_string.ArrayString.{ArrayString}
 use Rattle.std.proofs.lemmas.Grind.{flat_map-append}
 use Rattle.std.proofs.lemmas.List.{map-append, take_more}
 use Rattle.std.proofs.lemmas.List.Elements.{filter-append}
@@ -8,7 +10,7 @@ use Rattle.std.proofs.lemmas.List.Sums.{fold_push}
 use Rattle.std.specs.Prelude.{IfNone, Option, Some, Result, filter, flat_map}
 use Rattle.network_tables.specs.Choices.{Names, choice, named_row}
 use Rattle.network_tables.specs.HiddenCards.{count_with, hidden_name, names_with}
-use Rattle.network_tables.specs.Holders.{row_card}
+use Rattle.network_tables.specs.Holders.{holder_of, row_card}
 use Rattle.network_tables.specs.Tables.{with_row}
 use Rattle.network_tables.specs.declared.card.CardState.{CardState}
 use Rattle.network_tables.specs.declared.card.CardState.TheVariants.{Up}
@@ -17,8 +19,9 @@ use Rattle.network_tables.specs.declared.choice.CardWord.{CardWord}
 use Rattle.network_tables.specs.declared.hidden_cards.HiddenCards.{HiddenCards}
 use Rattle.network_tables.specs.declared.route.Route.{Route}
 use Rattle.network_tables.specs.declared.table.Card.{Card}
-use Rattle.packet_paths.specs.AskedCards.{AreAsked, AreHiddenAmong, CardSource, IsNamedSource}
-use Rattle.packet_paths.specs.AskedCards.{RowInState, hidden_in, state_questions}
+use Rattle.packet_paths.specs.AskedCards.{AreAsked, AreHiddenAmong, AreOfCards, CardSource}
+use Rattle.packet_paths.specs.AskedCards.{IsCardBy, IsNamedSource, RowInState, hidden_in}
+use Rattle.packet_paths.specs.AskedCards.{state_questions}
 use Rattle.packet_paths.specs.declared.card_system.CardQuestion.{CardQuestion}
 use Rattle.packet_paths.specs.declared.card_system.CardQuestion.TheVariants as question
 
@@ -86,3 +89,45 @@ network_more networks network host source before after questions h row =
           ∙ sym (map-append (λ one. question.SourceBy one.card host one.source) h.answers
           (one ∷ []));
     }
+
+-- one address more
+pub card_more : (own : List (List ℕ)) (networks : List Route) (front : List (List ℕ))
+    (before rows after : List Card) (questions : List CardQuestion) (address : List ℕ)
+    (card : Option (ArrayString 15)) (more : List CardQuestion)
+    → AreOfCards own networks front before rows questions
+    → IsCardBy (holder_of address networks) address own networks card more
+    → after ≡ with_row rows card (Some address)
+    → AreOfCards own networks (front ++ address ∷ []) before after (questions ++ more)
+card_more own networks [] before rows after questions address card more h is row = (
+  card,
+  more,
+  [],
+  is,
+  (row ∙ ap (λ l. with_row l card (Some address)) h.0, refl),
+  ap (λ l. l ++ more) h.1 ∙ sym (append-nil more),
+)
+card_more own networks (other ∷ front) before rows after questions address card more h is row =
+    let (its, first, rest, is_first, are, asked) = h in (
+      its,
+      first,
+      rest ++ more,
+      is_first,
+      card_more own networks front (with_row before its (Some other)) rows after rest address card
+          more are is row,
+      ap (λ l. l ++ more) asked ∙ append_assoc first rest more,
+    )
+
+-- the address at a place
+pub card_at : (own : List (List ℕ)) (networks : List Route) (place : ℕ) (d : List ℕ)
+    (rows after : List Card) (questions : List CardQuestion) (card : Option (ArrayString 15))
+    (more : List CardQuestion) → place < length own
+    → AreOfCards own networks (take place own) [] rows questions
+    → IsCardBy (holder_of (get_or own place d) networks) (get_or own place d) own networks card
+    more
+    → after ≡ with_row rows card (Some (get_or own place d))
+    → AreOfCards own networks (take (place + 1) own) [] after (questions ++ more)
+card_at own networks place d rows after questions card more inside are is row =
+    subst (λ l. AreOfCards own networks l [] after (questions ++ more))
+    (sym (take_more own place d inside))
+    (card_more own networks (take place own) [] rows after questions (get_or own place d) card more
+    are is row)

@@ -1,7 +1,7 @@
 -- What follows for one more of a list that is gone through in its order.
 use Rattle.std.proofs.Common.{◌≡◌, ℕ, ◌+◌, Bool, List, [], ◌∷◌, ◌++◌, ◌∙◌, ap, sym, refl, length}
-use Rattle.std.proofs.Common.{◌<◌, append-nil, append_assoc, arith, subst, take}
-use Rattle.std.proofs.lemmas.List.{length-take-le}
+use Rattle.std.proofs.Common.{◌<◌, append-nil, append_assoc, arith, get_or, subst, take}
+use Rattle.std.proofs.lemmas.List.{length-take-le, take_more}
 use Rattle.packet_paths.specs.NetworkLooks.{AreSourcesLooked, SourceAnswers, source_after}
 use Rattle.packet_paths.specs.NetworkLooks.{source_steps}
 use Rattle.packet_paths.specs.NetworkOpens.{AreTaken, IsTaken}
@@ -12,7 +12,11 @@ use Rattle.packet_paths.specs.Sends.{source_at}
 use Rattle.packet_paths.specs.declared.night_paths.Leaving.{Leaving}
 use Rattle.packet_paths.specs.declared.night_paths.Source.{Source}
 use Rattle.packet_paths.specs.declared.path.Path.{Path}
-use Rattle.std.specs.Prelude.{None, Ok}
+use Rattle.packet_paths.specs.RoutedNotices.{AreRouted, IsRouteTo, host_to_route}
+use Rattle.packet_paths.specs.declared.routed_notices.RoutedNotice.{RoutedNotice}
+use Rattle.link_notices.specs.declared.notice.LinkNotice.{LinkNotice}
+use Rattle.network_tables.specs.declared.route.Route.{Route}
+use Rattle.std.specs.Prelude.{None, Ok, Option}
 use Rattle.targets.specs.declared.target.Target.{Target}
 
 -- of what came first nothing is left to be gone through
@@ -107,6 +111,49 @@ target_more leaving (other ∷ front) sources paths middle between steps target 
       target_more leaving front sources_1 paths_1 middle between rest target after found more are is,
       ap (λ l. l ++ more) steps_are ∙ append_assoc first rest more,
     )
+
+pub notice_more : (paths : List Path) (front : List LinkNotice) (routed : List RoutedNotice)
+    (steps : List NetworkStep) (notice : LinkNotice) (route : Option Route)
+    (more : List NetworkStep) → AreRouted paths front routed steps
+    → IsRouteTo (host_to_route paths notice) route more
+    → AreRouted paths (front ++ notice ∷ [])
+    (routed ++ record { notice = notice; route = route } ∷ []) (steps ++ more)
+notice_more paths [] routed steps notice route more h is = (
+  route,
+  [],
+  more,
+  [],
+  is,
+  (refl, refl),
+  ap (λ l. l ++ record { notice = notice; route = route } ∷ []) h.0,
+  alone steps more h.1,
+)
+notice_more paths (other ∷ front) routed steps notice route more h is =
+    let (its, others, first, rest, is_first, are, routed_are, steps_are) = h in
+    let one : RoutedNotice = record { notice = notice; route = route } in (
+      its,
+      others ++ one ∷ [],
+      first,
+      rest ++ more,
+      is_first,
+      notice_more paths front others rest notice route more are is,
+      ap (λ l. l ++ one ∷ []) routed_are,
+      ap (λ l. l ++ more) steps_are ∙ append_assoc first rest more,
+    )
+
+-- the notice at a place
+pub notice_at : (paths : List Path) (notices : List LinkNotice) (place : ℕ) (d : LinkNotice)
+    (routed after : List RoutedNotice) (steps : List NetworkStep) (route : Option Route)
+    (more : List NetworkStep) → place < length notices
+    → AreRouted paths (take place notices) routed steps
+    → IsRouteTo (host_to_route paths (get_or notices place d)) route more
+    → after ≡ routed ++ record { notice = get_or notices place d; route = route } ∷ []
+    → AreRouted paths (take (place + 1) notices) after (steps ++ more)
+notice_at paths notices place d routed after steps route more inside are is pushed =
+    let notice = get_or notices place d in
+    subst (λ l. AreRouted paths l after (steps ++ more)) (sym (take_more notices place d inside))
+    (subst (λ l. AreRouted paths (take place notices ++ notice ∷ []) l (steps ++ more)) (sym pushed)
+    (notice_more paths (take place notices) routed steps notice route more are is))
 
 -- how many came before a place
 pub placed : {X : Type 0} (xs : List X) (i place : ℕ) → i < length xs → place ≡ i

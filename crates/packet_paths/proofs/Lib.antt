@@ -5,3 +5,4 @@ mod Rooms
 mod RowsShown
 mod SocketAnswers
 mod StepsInOrder
+mod RoutesFound

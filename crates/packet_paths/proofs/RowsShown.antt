@@ -5,21 +5,21 @@ use Rattle.std.proofs.lemmas.List.{length-map, map-append}
 use Rattle.std.proofs.lemmas.List.Sums.{fold_push}
 use Rattle.std.specs.Prelude.{Some}
 use Rattle.network_tables.specs.declared.neighbor.Neighbor.{Neighbor}
-use Rattle.packet_paths.specs.NetworkLooks.{read_rows, with_row, with_rows}
+use Rattle.packet_paths.specs.NetworkLooks.{read_rows, after_row, after_rows}
 use Rattle.packet_paths.specs.NetworkSteps.NetworkStep.{ReadNeighbor}
 use Rattle.packet_paths.specs.declared.path.Path.{Path}
 
-pub none_shown : (paths : List Path) → paths ≡ map (with_rows []) paths
+pub none_shown : (paths : List Path) → paths ≡ map (after_rows []) paths
 none_shown [] = refl
 none_shown (path ∷ paths) = ap (λ l. path ∷ l) (none_shown paths)
 
 pub one_shown : (rows : List Neighbor) (row : Neighbor) (paths : List Path)
-    → map (with_row row) (map (with_rows rows) paths) ≡ map (with_rows (rows ++ row ∷ [])) paths
+    → map (after_row row) (map (after_rows rows) paths) ≡ map (after_rows (rows ++ row ∷ [])) paths
 one_shown rows row [] = refl
 one_shown rows row (path ∷ paths) =
-    ap (λ p. p ∷ map (with_row row) (map (with_rows rows) paths))
-    (sym (fold_push (λ path row. with_row row path) path rows row))
-    ∙ ap (λ l. with_rows (rows ++ row ∷ []) path ∷ l) (one_shown rows row paths)
+    ap (λ p. p ∷ map (after_row row) (map (after_rows rows) paths))
+    (sym (fold_push (λ path row. after_row row path) path rows row))
+    ∙ ap (λ l. after_rows (rows ++ row ∷ []) path ∷ l) (one_shown rows row paths)
 
 pub one_read : (rows : List Neighbor) (row : Neighbor)
     → read_rows rows ++ ReadNeighbor (Some row) ∷ [] ≡ read_rows (rows ++ row ∷ [])
@@ -31,6 +31,6 @@ pub refilled : (old new : List Path) → length new ≡ length old
 refilled old new same =
     ap (λ n. take n (new ++ drop (length new) old)) (sym same) ∙ rw take-append_seam refl
 
-pub shown_all : (rows : List Neighbor) (old new : List Path) → new ≡ map (with_rows rows) old
-    → take (length old) (new ++ drop (length new) old) ≡ map (with_rows rows) old
-shown_all rows old new is = refilled old new (ap length is ∙ length-map old (with_rows rows)) ∙ is
+pub shown_all : (rows : List Neighbor) (old new : List Path) → new ≡ map (after_rows rows) old
+    → take (length old) (new ++ drop (length new) old) ≡ map (after_rows rows) old
+shown_all rows old new is = refilled old new (ap length is ∙ length-map old (after_rows rows)) ∙ is

@@ -1,11 +1,11 @@
 -- Which cards of this machine are asked, and what follows from their answers.
 use Rattle.std.specs.Prelude.{◌≡◌, ℕ, ◌⊎◌, List, [], ◌∷◌, ◌++◌, codes, flat_map, fold, map}
-use Rattle.std.specs.Prelude.{IfNone, Option, Some, None, Result, option_map}
+use Rattle.std.specs.Prelude.{IfNone, Option, Some, None, Result, Ok, Err, option_map}
 use Rattle.arrayvec.specs.declared.array_string.ArrayString.{ArrayString}
 use Rattle.network_tables.specs.Choices.{Names, choice, named_row}
 use Rattle.network_tables.specs.HiddenCards.{count_with, hidden_name, names_with}
-use Rattle.network_tables.specs.Holders.{HasNoHostBeside, IsHostBeside, card_among, networks_of}
-use Rattle.network_tables.specs.Holders.{row_card}
+use Rattle.network_tables.specs.Holders.{HasNoHostBeside, IsHostBeside, card_among, holder_of}
+use Rattle.network_tables.specs.Holders.{networks_of, row_card}
 use Rattle.network_tables.specs.Routes.{name_seen}
 use Rattle.network_tables.specs.Tables.{with_row}
 use Rattle.network_tables.specs.declared.card.CardState.{CardState}
@@ -17,6 +17,7 @@ use Rattle.network_tables.specs.declared.holder.Holder.{Holder}
 use Rattle.network_tables.specs.declared.holder.Holder.TheVariants as holder
 use Rattle.network_tables.specs.declared.route.Route.{Route}
 use Rattle.network_tables.specs.declared.table.Card.{Card}
+use Rattle.packet_paths.specs.declared.asked_cards.NamedRefusal.{NamedRefusal}
 use Rattle.packet_paths.specs.declared.card_system.CardQuestion.{CardQuestion}
 use Rattle.packet_paths.specs.declared.card_system.CardQuestion.TheVariants as question
 
@@ -97,3 +98,23 @@ IsCardBy (holder.OneOf network first other) address own networks card questions 
     × IsChosenCard address networks host first other card questions)
     ⊎ (HasNoHostBeside network own × (card ≡ None) × (questions ≡ []))
 IsCardBy holder.Unknown address own networks card questions = (card ≡ None) × (questions ≡ [])
+
+-- where the card that a text names is refused, all cards are asked which of them are hidden, and
+-- only then
+abbrev pub IsSourceByName : List ℕ → List Card → Result (List ℕ) NamedRefusal
+    → List CardQuestion → Type 0
+IsSourceByName text rows (Ok address) questions = IsNamedSource text rows (Ok address) questions
+IsSourceByName text rows (Err refusal) questions = (first more : List CardQuestion)
+    × IsNamedSource text rows (Err refusal.reason) first
+    × AreHiddenAmong rows refusal.hidden more × (questions ≡ first ++ more)
+
+-- THE CARDS OF ADDRESSES of this machine, each in its turn: it has a row behind those before it,
+-- with its card, where that is known
+abbrev pub AreOfCards : List (List ℕ) → List Route → List (List ℕ) → List Card → List Card
+    → List CardQuestion → Type 0
+AreOfCards own networks [] before rows questions = (rows ≡ before) × (questions ≡ [])
+AreOfCards own networks (address ∷ behind) before rows questions =
+    (card : Option (ArrayString 15)) × (first more : List CardQuestion)
+    × IsCardBy (holder_of address networks) address own networks card first
+    × AreOfCards own networks behind (with_row before card (Some address)) rows more
+    × (questions ≡ first ++ more)

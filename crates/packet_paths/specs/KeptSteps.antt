@@ -7,13 +7,13 @@ use Rattle.packet_paths.specs.declared.memory_sockets.MemoryStep.{MemoryStep}
 use Rattle.packet_paths.specs.declared.memory_sockets.MemoryStep.TheVariants as kept
 
 -- one step
-abbrev pub step_of : MemoryStep → NetworkStep
-step_of (kept.Ask question) = Ask question
-step_of (kept.AskState card state) = AskState card state
-step_of (kept.AskOwn address is_own) = AskOwn address is_own
-step_of (kept.AskIndex card index) = AskIndex card index
-step_of (kept.OpenSocket address answer) = OpenSocket address answer
-step_of (kept.TieSocket place address card tied) = TieSocket place address card tied
-step_of (kept.Send socket to bytes answer) = Send socket to bytes.items answer
-step_of kept.OpenNeighbors = OpenNeighbors
-step_of (kept.ReadNeighbor row) = ReadNeighbor row
+abbrev pub step_seen : MemoryStep → NetworkStep
+step_seen (kept.Ask question) = Ask question
+step_seen (kept.AskState card state) = AskState card state
+step_seen (kept.AskOwn address is_own) = AskOwn address is_own
+step_seen (kept.AskIndex card index) = AskIndex card index
+step_seen (kept.OpenSocket address answer) = OpenSocket address answer
+step_seen (kept.TieSocket place address card tied) = TieSocket place address card tied
+step_seen (kept.Send socket to bytes answer) = Send socket to bytes.items answer
+step_seen kept.OpenNeighbors = OpenNeighbors
+step_seen (kept.ReadNeighbor row) = ReadNeighbor row

@@ -10,3 +10,6 @@ pub mod Sockets
 pub mod Sends
 pub mod SocketCalls
 pub mod AskedCards
+pub mod RefusedRoutes
+pub mod RoutedNotices
+pub mod SocketAddresses

@@ -9,6 +9,7 @@ use Rattle.link_notices.specs.declared.source.SourceState.TheVariants as state
 use Rattle.network_tables.specs.Neighbors.{silence_by}
 use Rattle.network_tables.specs.declared.card.CardState.{CardState}
 use Rattle.network_tables.specs.declared.neighbor.Neighbor.{Neighbor}
+use Rattle.network_tables.specs.declared.route.Route.{Route}
 use Rattle.packet_paths.specs.NetworkSteps.{NetworkStep}
 use Rattle.packet_paths.specs.NetworkSteps.NetworkStep.{Ask, AskIndex, AskOwn, AskState}
 use Rattle.packet_paths.specs.NetworkSteps.NetworkStep.{OpenNeighbors, ReadNeighbor, TieSocket}
@@ -63,10 +64,10 @@ abbrev pub IsLookAlong : Bool → CardAddress → Bool → Bool → Path → Pat
 IsLookAlong false source has_link is_any_route before after steps =
     (after ≡ record before { has_link = has_link }) × (steps ≡ [])
 IsLookAlong true source has_link is_any_route before after steps =
-    (route taker : Option (List ℕ)) × IsFound route source before.route after.route
-    × (after ≡ with_route (toward route (record before { has_link = has_link }) taker) after.route
+    (route : Option (List ℕ)) × (table : Option Route) × IsFound route source before.route after.route
+    × (after ≡ with_route (toward route (record before { has_link = has_link }) table) after.route
     source is_any_route)
-    × (steps ≡ Ask (question.Source before.host route) ∷ taker_questions route before taker
+    × (steps ≡ Ask (question.Source before.host route) ∷ taker_questions route before table
     ++ card_questions before.host source before.route after.route)
 
 abbrev pub can_send : SourceState → Bool
@@ -75,12 +76,12 @@ can_send state = false
 
 -- THE NEIGHBORS. Each path is shown each row of their table, in order, up to the first read that
 -- gives none; no more than 2^64 - 1 rows are read
-abbrev pub with_row : Neighbor → Path → Path
-with_row row path =
+abbrev pub after_row : Neighbor → Path → Path
+after_row row path =
     record path { silence = silence_by row path.neighbor path.has_link path.silence }
 
-abbrev pub with_rows : List Neighbor → Path → Path
-with_rows rows path = fold (λ path row. with_row row path) path rows
+abbrev pub after_rows : List Neighbor → Path → Path
+after_rows rows path = fold (λ path row. after_row row path) path rows
 
 abbrev pub read_rows : List Neighbor → List NetworkStep
 read_rows rows = map (λ row. ReadNeighbor (Some row)) rows

@@ -7,6 +7,7 @@ use Rattle.std.specs.declared.io.ErrorKind.{ErrorKind}
 use Rattle.arrayvec.specs.declared.array_string.ArrayString.{ArrayString}
 use Rattle.link_notices.specs.declared.path.CardAddress.{CardAddress}
 use Rattle.link_notices.specs.declared.source.SourceState.TheVariants as state
+use Rattle.network_tables.specs.declared.route.Route.{Route}
 use Rattle.packet_paths.specs.Hosts.{is_multicast, new_path, path_place}
 use Rattle.packet_paths.specs.NetworkLooks.{tie_steps, tied_source}
 use Rattle.packet_paths.specs.NetworkSteps.{NetworkStep}
@@ -33,8 +34,8 @@ new_source address card =
     record { address = address; card = card; state = state.Sends; tied = None }
 
 -- one more is kept where there are not 8 yet
-abbrev pub with_source : List Source → Source → List Source
-with_source sources source =
+abbrev pub source_behind : List Source → Source → List Source
+source_behind sources source =
     if nat_lt (length sources) 8 then sources ++ source ∷ [] else sources
 
 abbrev pub next_place : List Source → Option ℕ
@@ -49,7 +50,7 @@ IsNewSource (Err reason) is_any_route source before after place steps =
     × (steps ≡ OpenSocket source.address (Err reason) ∷ [])
 IsNewSource (Ok opened) is_any_route source before after place steps =
     (index tied : Option ℕ)
-    × (after ≡ with_source before (tied_source is_any_route source index tied))
+    × (after ≡ source_behind before (tied_source is_any_route source index tied))
     × (place ≡ Ok (next_place before))
     × (steps ≡ OpenSocket source.address (Ok opened)
     ∷ tie_steps is_any_route (length before) source index tied)
@@ -66,13 +67,13 @@ IsSource None is_any_route address host before after place steps = (card : Array
     × (steps ≡ Ask (question.Card address host card) ∷ more)
 
 -- a new path is looked along by the route that is known, but to no multicast group
-abbrev pub IsFirstLook : Option CardAddress → Option (List ℕ) → Bool → Path → Path
+abbrev pub IsNewPathLook : Option CardAddress → Option (List ℕ) → Bool → Path → Path
     → List NetworkStep → Type 0
-IsFirstLook None route is_any_route before after steps = (after ≡ before) × (steps ≡ [])
-IsFirstLook (Some source) route is_any_route before after steps = (taker : Option (List ℕ))
+IsNewPathLook None route is_any_route before after steps = (after ≡ before) × (steps ≡ [])
+IsNewPathLook (Some source) route is_any_route before after steps = (table : Option Route)
     × IsFound route source before.route after.route
-    × (after ≡ with_route (toward route before taker) after.route source is_any_route)
-    × (steps ≡ taker_questions route before taker
+    × (after ≡ with_route (toward route before table) after.route source is_any_route)
+    × (steps ≡ taker_questions route before table
     ++ card_questions before.host source before.route after.route)
 
 abbrev pub first_source : List Source → Path → Option CardAddress
@@ -84,7 +85,7 @@ IsPathFrom (Err fault) route is_any_route host sources answer steps =
     (answer ≡ Err fault) × (steps ≡ [])
 IsPathFrom (Ok place) route is_any_route host sources answer steps = (path : Path)
     × (answer ≡ Ok path)
-    × IsFirstLook (first_source sources (new_path host place true)) route is_any_route
+    × IsNewPathLook (first_source sources (new_path host place true)) route is_any_route
     (new_path host place true) path steps
 
 -- the path by the address that its packets come from, if there is one
@@ -110,9 +111,9 @@ IsReached leaving host before after answer steps =
     × (steps ≡ Ask (question.Source host route) ∷ more)
 
 -- what becomes of the paths, where a host was to be reached for the first time
-abbrev pub answer_of : Result Path OpenFault → Result (Unit {0}) OpenFault
-answer_of (Ok path) = Ok tt
-answer_of (Err fault) = Err fault
+abbrev pub reach_answer : Result Path OpenFault → Result (Unit {0}) OpenFault
+reach_answer (Ok path) = Ok tt
+reach_answer (Err fault) = Err fault
 
 abbrev pub with_found : Result Path OpenFault → List Path → List Path
 with_found (Ok path) paths = paths ++ path ∷ []
@@ -125,7 +126,7 @@ IsTaken (Some place) leaving host sources paths sources_after paths_after answer
     (sources_after ≡ sources) × (paths_after ≡ paths) × (answer ≡ Ok tt) × (steps ≡ [])
 IsTaken None leaving host sources paths sources_after paths_after answer steps =
     (path : Result Path OpenFault) × IsReached leaving host sources sources_after path steps
-    × (paths_after ≡ with_found path paths) × (answer ≡ answer_of path)
+    × (paths_after ≡ with_found path paths) × (answer ≡ reach_answer path)
 
 -- THE TARGETS, each in its turn: so there is one path for each host, and one source for each
 -- address

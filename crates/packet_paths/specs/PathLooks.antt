@@ -4,10 +4,10 @@ use Rattle.std.specs.Prelude.{Ok, Err, Option, Some, None, map}
 use Rattle.network_tables.specs.declared.neighbor.Neighbor.{Neighbor}
 use Rattle.packet_paths.specs.Hosts.{is_multicast}
 use Rattle.packet_paths.specs.NetworkLooks.{AreRowsRead, AreSourcesLooked, IsLookAlong, can_send}
-use Rattle.packet_paths.specs.NetworkLooks.{with_rows}
+use Rattle.packet_paths.specs.NetworkLooks.{after_rows}
 use Rattle.packet_paths.specs.NetworkOpens.{IsReached}
 use Rattle.packet_paths.specs.NetworkSteps.{NetworkStep}
-use Rattle.packet_paths.specs.Sends.{card_address, source_at}
+use Rattle.packet_paths.specs.Sends.{address_and_card, source_at}
 use Rattle.packet_paths.specs.declared.night_paths.Leaving.{Leaving}
 use Rattle.packet_paths.specs.declared.night_paths.NightPaths.{NightPaths}
 use Rattle.packet_paths.specs.declared.night_paths.Source.{Source}
@@ -28,7 +28,7 @@ IsPathFound None leaving path sources found after steps = (answer : Result Path 
     × IsReached leaving path.host sources after answer steps
     × (found ≡ path_or answer path)
 IsPathFound (Some source) leaving path sources found after steps =
-    IsLookAlong (can_send source.state && not (is_multicast path.host)) (card_address source)
+    IsLookAlong (can_send source.state && not (is_multicast path.host)) (address_and_card source)
     (can_send source.state) leaving.is_any_route path found steps
     × (after ≡ sources)
 
@@ -57,6 +57,6 @@ pub record IsLooked (before after : NightPaths) (steps : List NetworkStep) : Typ
   pub paths_found : ArePathsFound before.leaving before.paths.items sources paths
       after.sources.items of_paths
   pub rows_read : AreRowsRead rows of_rows
-  pub paths_after : after.paths.items ≡ map (with_rows rows) paths
+  pub paths_after : after.paths.items ≡ map (after_rows rows) paths
   pub in_order : steps ≡ of_sources ++ of_paths ++ of_rows
   pub kept : after ≡ record before { sources = after.sources; paths = after.paths }

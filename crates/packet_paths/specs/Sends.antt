@@ -4,7 +4,7 @@ use Rattle.std.specs.Prelude.{Option, Some, None, option_and_then, option_map, s
 use Rattle.std.specs.Prelude.{set, if◌then◌else◌}
 use Rattle.std.specs.Option.{is_some}
 use Rattle.std.specs.declared.io.ErrorKind.{ErrorKind}
-use Rattle.link_notices.specs.Offers.{sending}
+use Rattle.link_notices.specs.Offers.{offer_of}
 use Rattle.link_notices.specs.declared.path.CardAddress.{CardAddress}
 use Rattle.link_notices.specs.declared.sending.Sending.{Sending}
 use Rattle.link_notices.specs.declared.sending.Sending.TheVariants as how
@@ -24,12 +24,12 @@ abbrev pub source_at : List Source → Option ℕ → Option Source
 source_at sources place = option_and_then (slice_get sources) place
 
 -- a source's address, and its card
-abbrev pub card_address : Source → CardAddress
-card_address source = record { address = source.address; card = source.card }
+abbrev pub address_and_card : Source → CardAddress
+address_and_card source = record { address = source.address; card = source.card }
 
 -- from where the packets of a path come
 abbrev pub path_source : List Source → Path → Option CardAddress
-path_source sources path = option_map card_address (source_at sources path.source)
+path_source sources path = option_map address_and_card (source_at sources path.source)
 
 -- the path at a place, if there is one
 abbrev pub path_at : List Path → Option ℕ → Option Path
@@ -73,20 +73,20 @@ source_socket (Some place) (Some source) host =
 source_socket (Some place) None host = socket.Unbound
 source_socket None source host = socket.Unbound
 
-abbrev pub place_of : Option Path → Option ℕ
-place_of path = option_and_then (λ path. path.source) path
+abbrev pub path_source_place : Option Path → Option ℕ
+path_source_place path = option_and_then (λ path. path.source) path
 
 abbrev pub packet_source : NightPaths → List ℕ → Option Source
 packet_source night host =
-    source_at night.sources.items (place_of (packet_path night host))
+    source_at night.sources.items (path_source_place (packet_path night host))
 
 abbrev pub packet_socket : NightPaths → List ℕ → NightSocket
 packet_socket night host =
-    source_socket (place_of (packet_path night host)) (packet_source night host) host
+    source_socket (path_source_place (packet_path night host)) (packet_source night host) host
 
 -- how it is offered to the system
 abbrev pub packet_sending : NightPaths → List ℕ → Sending
-packet_sending night host = sending (state_of_path (packet_path night host))
+packet_sending night host = offer_of (state_of_path (packet_path night host))
     (option_map (λ source. source.state) (packet_source night host)) night.leaving.is_any_route
 
 -- a packet that the system takes is lost all the same

@@ -30,17 +30,6 @@ with_taker path taker = record path {
       if same_taker path.neighbor taker then path.silence else silence_toward taker path.silence;
 }
 
--- a path after a look along a route, by the answer
-abbrev pub toward : Option (List ℕ) → Path → Option (List ℕ) → Path
-toward None path taker = path
-toward (Some address) path taker = if asks_taker path then with_taker path taker else path
-
--- what is asked for it
-abbrev pub taker_questions : Option (List ℕ) → Path → Option (List ℕ) → List NetworkStep
-taker_questions None path taker = []
-taker_questions (Some address) path taker =
-    if asks_taker path then Ask (question.Neighbor path.host address taker) ∷ [] else []
-
 -- this machine takes packets itself that go to the address that they come from, or come from its
 -- own loop
 abbrev pub is_taken_here : List ℕ → List ℕ → Bool
@@ -50,6 +39,27 @@ is_taken_here host address = bytes_eq address host || (slice_index address 0 == 
 abbrev pub first_taker : List ℕ → Option Route → Option (List ℕ)
 first_taker host None = None
 first_taker host (Some route) = Some (unwrap_or route.gateway host)
+
+-- who takes those first that come from an address, by the route of the main table to their host;
+-- that is asked for where this machine does not take them itself
+abbrev pub taker_by : List ℕ → List ℕ → Option Route → Option (List ℕ)
+taker_by host address table =
+    if is_taken_here host address then None else first_taker host table
+
+abbrev pub table_questions : List ℕ → List ℕ → Option Route → List NetworkStep
+table_questions host address table =
+    if is_taken_here host address then [] else Ask (question.Route host table) ∷ []
+
+-- a path after a look along a route, by the main table, and what is asked then
+abbrev pub toward : Option (List ℕ) → Path → Option Route → Path
+toward None path table = path
+toward (Some address) path table =
+    if asks_taker path then with_taker path (taker_by path.host address table) else path
+
+abbrev pub taker_questions : Option (List ℕ) → Path → Option Route → List NetworkStep
+taker_questions None path table = []
+taker_questions (Some address) path table =
+    if asks_taker path then table_questions path.host address table else []
 
 -- the card that packets come from: that of their address, where it is known; else the one that the
 -- route leads by; else nobody knows

@@ -1,8 +1,8 @@
-ghost use Rattle.std.specs.Prelude.{◌≡◌, List, ◌++◌, codes, IfNone};
+ghost use Rattle.std.specs.Prelude.{◌≡◌, List, [], ◌++◌, codes, IfNone};
 ghost use Rattle.network_tables.specs.Holders.{holder_of, networks_of, row_card};
 ghost use Rattle.network_tables.specs.declared.card.CardState.TheVariants.{Up};
-ghost use Rattle.packet_paths.specs.AskedCards.{AreAsked, AreHiddenAmong, IsCardBy, IsNamedSource};
-ghost use Rattle.packet_paths.specs.AskedCards.{state_questions};
+ghost use Rattle.packet_paths.specs.AskedCards.{AreAsked, AreHiddenAmong, AreOfCards, IsCardBy};
+ghost use Rattle.packet_paths.specs.AskedCards.{IsNamedSource, IsSourceByName, state_questions};
 ghost use Rattle.packet_paths.specs.declared.card_system.CardQuestion.{CardQuestion as QuestionOf};
 
 use crate::card_system::CardSystem;
@@ -13,6 +13,38 @@ use network_tables::{
 
 // The card of the machine's own loop.
 const LOOP: &str = "lo";
+
+/// Why packets do not leave by the card that a text names.
+#[derive(Clone, Copy, Debug)]
+pub struct NamedRefusal {
+    pub reason: CardRefusal,
+    /// The cards that may have an address which is not known.
+    pub hidden: HiddenCards,
+}
+
+/// The address that packets come from, by the card of this machine that a text names.
+///
+/// # Errors
+///
+/// Why that card cannot be sent by; then the cards are asked which of them are hidden.
+pub fn source_by_name<S: CardSystem>(
+    system: &mut S,
+    named: &str,
+    cards: &Cards,
+) -> Result<[u8; 4], NamedRefusal>
+    ensures told { S.tells system.new → S.tells system.old }
+    ensures source { (questions : List QuestionOf)
+        × IsSourceByName named.now cards.now.rows.items result questions
+        × (S.tells system.new → S.questions system.new ≡ S.questions system.old ++ questions) }
+{
+    match named_source(system, named, cards) {
+        Ok(address) => Ok(address),
+        Err(reason) => {
+            let hidden = hidden_cards(system, cards.as_slice());
+            Err(NamedRefusal { reason, hidden })
+        }
+    }
+}
 
 /// The address that packets come from, by the card of this machine that a text names.
 ///
@@ -93,6 +125,22 @@ pub fn card_of<S: CardSystem>(
         }
         Holder::Unknown => None,
     }
+}
+
+/// The cards of these addresses of this machine, in their order: the addresses are its own, and
+/// these are the routes to the networks at which cards are.
+pub fn cards_of<S: CardSystem>(system: &mut S, own: &[[u8; 4]], networks: &[Route]) -> Cards
+    ensures told { S.tells system.new → S.tells system.old }
+    ensures cards { (questions : List QuestionOf)
+        × AreOfCards own.now networks.now own.now [] result.rows.items questions
+        × (S.tells system.new → S.questions system.new ≡ S.questions system.old ++ questions) }
+{
+    let mut cards = Cards::new();
+    for address in own {
+        let name = card_of(system, *address, own, networks);
+        cards.add(name, Some(*address));
+    }
+    cards
 }
 
 fn loop_card() -> CardName

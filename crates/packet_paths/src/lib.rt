@@ -11,6 +11,7 @@
 //! ```
 #![tactic(auto)]
 
+mod addresses;
 mod asked_cards;
 mod card_system;
 mod hosts;
@@ -24,12 +25,17 @@ mod night_paths;
 mod night_socket;
 mod open_fault;
 mod path;
+mod refused_route;
+mod routed_notices;
 mod socket_call;
 mod sockets;
 mod system;
 mod takers;
 
-pub use asked_cards::{card_of, hidden_cards, named_source};
+pub use addresses::{destination, machine_by, mapped_address, socket_address};
+pub use asked_cards::{
+    NamedRefusal, card_of, cards_of, hidden_cards, named_source, source_by_name,
+};
 pub use card_system::{CardQuestion, CardSystem};
 pub use hosts::{is_multicast, packet_place, path_place};
 pub use memory_call::MemoryCall;
@@ -39,6 +45,8 @@ pub use night_paths::{Leaving, NightPaths, Source};
 pub use night_socket::NightSocket;
 pub use open_fault::OpenFault;
 pub use path::{Path, sending_of};
+pub use refused_route::{NetworkRefusal, RefusedRoute};
+pub use routed_notices::{RoutedNotice, RoutedNotices};
 pub use socket_call::{SocketCall, call_again, send_whole};
 pub use sockets::{is_tie_due, is_tied, other_index, source_address};
 pub use system::{Question, RouteSystem};

@@ -1,74 +1,13 @@
-//! A system over memory, which tells what it was asked.
+//! The cards of a system over memory, which tell what they were asked.
 
-ghost use Rattle.std.specs.Prelude.{◌≡◌, false, map, option_and_then};
+ghost use Rattle.std.specs.Prelude.{◌≡◌, false, option_and_then};
 ghost use Rattle.memory_steps.specs.Keeping.{OnlyKeeps};
 ghost use Rattle.network_tables.specs.Tables.{of_name};
-ghost use Rattle.packet_paths.specs.NetworkSteps.NetworkStep.{Ask};
 ghost use Rattle.packet_paths.specs.declared.card_system.CardQuestion.TheVariants as card_question;
-ghost use Rattle.packet_paths.specs.declared.system.Question.TheVariants as question;
 
 use crate::card_system::{CardQuestion, CardSystem};
-use crate::system::{Question, RouteSystem};
 use memory_steps::MemorySteps;
 use network_tables::{CardName, CardState, Cards};
-
-/// What a system over memory answers.
-#[derive(Clone, Copy, Debug)]
-pub struct RouteAnswers {
-    /// The time, in nanoseconds.
-    pub time: Option<u64>,
-    /// The address that packets to any host would come from.
-    pub source: Option<[u8; 4]>,
-    /// The card of each address.
-    pub card: CardName,
-    /// Who takes the packets to any host first.
-    pub neighbor: Option<[u8; 4]>,
-}
-
-/// A system over memory.
-pub type MemorySystem = MemorySteps<RouteAnswers, Question>;
-
-impl RouteSystem for MemorySystem {
-    ghost tells = { λ m. m.full ≡ false };
-
-    ghost steps = { λ m. map Ask m.steps.items };
-
-    fn time(&mut self) -> Option<u64>
-        ensures answer { result ≡ self.old.answers.time }
-        ensures keeps { OnlyKeeps self.old self.new (question.Time result) }
-    {
-        let time = self.answers.time;
-        self.keep(Question::Time(time));
-        time
-    }
-
-    fn source_to(&mut self, host: [u8; 4]) -> Option<[u8; 4]>
-        ensures answer { result ≡ self.old.answers.source }
-        ensures keeps { OnlyKeeps self.old self.new (question.Source host result) }
-    {
-        let source = self.answers.source;
-        self.keep(Question::Source(host, source));
-        source
-    }
-
-    fn card_to(&mut self, address: [u8; 4], host: [u8; 4]) -> CardName
-        ensures answer { result ≡ self.old.answers.card }
-        ensures keeps { OnlyKeeps self.old self.new (question.Card address host result) }
-    {
-        let card = self.answers.card;
-        self.keep(Question::Card(address, host, card));
-        card
-    }
-
-    fn neighbor_to(&mut self, host: [u8; 4], address: [u8; 4]) -> Option<[u8; 4]>
-        ensures answer { result ≡ self.old.answers.neighbor }
-        ensures keeps { OnlyKeeps self.old self.new (question.Neighbor host address result) }
-    {
-        let neighbor = self.answers.neighbor;
-        self.keep(Question::Neighbor(host, address, neighbor));
-        neighbor
-    }
-}
 
 /// What the cards of a system over memory answer.
 #[derive(Drop)]

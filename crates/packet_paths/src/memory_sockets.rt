@@ -1,5 +1,5 @@
 ghost use Rattle.std.specs.Prelude.{◌≡◌, false, None, [], ◌∷◌, ◌++◌, map};
-ghost use Rattle.packet_paths.specs.KeptSteps.{step_of};
+ghost use Rattle.packet_paths.specs.KeptSteps.{step_seen};
 ghost use Rattle.packet_paths.specs.NetworkSteps.NetworkStep.{Ask, AskIndex, AskOwn, AskState};
 ghost use Rattle.packet_paths.specs.NetworkSteps.NetworkStep.{OpenNeighbors, OpenSocket};
 ghost use Rattle.packet_paths.specs.NetworkSteps.NetworkStep.{ReadNeighbor, Send, TieSocket};
@@ -8,7 +8,7 @@ ghost use Rattle.packet_paths.specs.declared.system.Question.TheVariants as ques
 use crate::network_system::NetworkSystem;
 use crate::night_socket::NightSocket;
 use crate::system::{Question, RouteSystem};
-use network_tables::{CardName, CardState, Neighbor};
+use network_tables::{CardName, CardState, Neighbor, Route};
 use std::alloc::Global;
 use std::io::ErrorKind;
 use targets::Address;
@@ -36,8 +36,8 @@ pub struct NetworkAnswers {
     pub source: Option<[u8; 4]>,
     /// The card of each address.
     pub card: CardName,
-    /// Who takes the packets to any host first.
-    pub neighbor: Option<[u8; 4]>,
+    /// The route that leads to any host.
+    pub route: Option<Route>,
     /// How each card is.
     pub state: CardState,
     /// Whether the machine has each address.
@@ -85,8 +85,8 @@ impl MemorySockets {
     fn keep(&mut self, step: MemoryStep)
         ensures same { self.new.answers ≡ self.old.answers }
         ensures told { self.new.is_full ≡ false → self.old.is_full ≡ false }
-        ensures step { self.new.is_full ≡ false → map step_of self.new.steps.items
-            ≡ map step_of self.old.steps.items ++ step_of step ∷ [] }
+        ensures step { self.new.is_full ≡ false → map step_seen self.new.steps.items
+            ≡ map step_seen self.old.steps.items ++ step_seen step ∷ [] }
     {
         if self.steps.push(step).is_err() {
             self.is_full = true;
@@ -97,14 +97,14 @@ impl MemorySockets {
 impl RouteSystem for MemorySockets {
     ghost tells = { λ m. m.is_full ≡ false };
 
-    ghost steps = { λ m. map step_of m.steps.items };
+    ghost steps = { λ m. map step_seen m.steps.items };
 
     fn time(&mut self) -> Option<u64>
         ensures answer { result ≡ self.old.answers.time }
         ensures same { self.new.answers ≡ self.old.answers }
         ensures told { self.new.is_full ≡ false → self.old.is_full ≡ false }
-        ensures question { self.new.is_full ≡ false → map step_of self.new.steps.items
-            ≡ map step_of self.old.steps.items ++ Ask (question.Time result) ∷ [] }
+        ensures question { self.new.is_full ≡ false → map step_seen self.new.steps.items
+            ≡ map step_seen self.old.steps.items ++ Ask (question.Time result) ∷ [] }
     {
         let answer = self.answers.time;
         self.keep(MemoryStep::Ask(Question::Time(answer)));
@@ -115,8 +115,8 @@ impl RouteSystem for MemorySockets {
         ensures answer { result ≡ self.old.answers.source }
         ensures same { self.new.answers ≡ self.old.answers }
         ensures told { self.new.is_full ≡ false → self.old.is_full ≡ false }
-        ensures question { self.new.is_full ≡ false → map step_of self.new.steps.items
-            ≡ map step_of self.old.steps.items ++ Ask (question.Source host result) ∷ [] }
+        ensures question { self.new.is_full ≡ false → map step_seen self.new.steps.items
+            ≡ map step_seen self.old.steps.items ++ Ask (question.Source host result) ∷ [] }
     {
         let answer = self.answers.source;
         self.keep(MemoryStep::Ask(Question::Source(host, answer)));
@@ -127,24 +127,24 @@ impl RouteSystem for MemorySockets {
         ensures answer { result ≡ self.old.answers.card }
         ensures same { self.new.answers ≡ self.old.answers }
         ensures told { self.new.is_full ≡ false → self.old.is_full ≡ false }
-        ensures question { self.new.is_full ≡ false → map step_of self.new.steps.items
-            ≡ map step_of self.old.steps.items ++ Ask (question.Card address host result) ∷ [] }
+        ensures question { self.new.is_full ≡ false → map step_seen self.new.steps.items
+            ≡ map step_seen self.old.steps.items ++ Ask (question.Card address host result) ∷ [] }
     {
         let answer = self.answers.card;
         self.keep(MemoryStep::Ask(Question::Card(address, host, answer)));
         answer
     }
 
-    fn neighbor_to(&mut self, host: [u8; 4], address: [u8; 4]) -> Option<[u8; 4]>
-        ensures answer { result ≡ self.old.answers.neighbor }
+    fn route_to(&mut self, host: [u8; 4]) -> Option<Route>
+        ensures answer { result ≡ self.old.answers.route }
         ensures same { self.new.answers ≡ self.old.answers }
         ensures told { self.new.is_full ≡ false → self.old.is_full ≡ false }
-        ensures question { self.new.is_full ≡ false → map step_of self.new.steps.items
-            ≡ map step_of self.old.steps.items ++ Ask (question.Neighbor host address result) ∷ [] }
+        ensures question { self.new.is_full ≡ false → map step_seen self.new.steps.items
+            ≡ map step_seen self.old.steps.items ++ Ask (question.Route host result) ∷ [] }
     {
-        let answer = self.answers.neighbor;
-        self.keep(MemoryStep::Ask(Question::Neighbor(host, address, answer)));
-        answer
+        let answer = self.answers.route;
+        self.keep(MemoryStep::Ask(Question::Route(host, answer)));
+        self.answers.route
     }
 }
 
@@ -153,8 +153,8 @@ impl NetworkSystem for MemorySockets {
         ensures answer { result ≡ self.old.answers.state }
         ensures same { self.new.answers ≡ self.old.answers }
         ensures told { self.new.is_full ≡ false → self.old.is_full ≡ false }
-        ensures step { self.new.is_full ≡ false → map step_of self.new.steps.items
-            ≡ map step_of self.old.steps.items ++ AskState card result ∷ [] }
+        ensures step { self.new.is_full ≡ false → map step_seen self.new.steps.items
+            ≡ map step_seen self.old.steps.items ++ AskState card result ∷ [] }
     {
         let answer = self.answers.state;
         self.keep(MemoryStep::AskState(card, answer));
@@ -165,8 +165,8 @@ impl NetworkSystem for MemorySockets {
         ensures answer { result ≡ self.old.answers.is_own }
         ensures same { self.new.answers ≡ self.old.answers }
         ensures told { self.new.is_full ≡ false → self.old.is_full ≡ false }
-        ensures step { self.new.is_full ≡ false → map step_of self.new.steps.items
-            ≡ map step_of self.old.steps.items ++ AskOwn address result ∷ [] }
+        ensures step { self.new.is_full ≡ false → map step_seen self.new.steps.items
+            ≡ map step_seen self.old.steps.items ++ AskOwn address result ∷ [] }
     {
         let answer = self.answers.is_own;
         self.keep(MemoryStep::AskOwn(address, answer));
@@ -177,8 +177,8 @@ impl NetworkSystem for MemorySockets {
         ensures answer { result ≡ self.old.answers.index }
         ensures same { self.new.answers ≡ self.old.answers }
         ensures told { self.new.is_full ≡ false → self.old.is_full ≡ false }
-        ensures step { self.new.is_full ≡ false → map step_of self.new.steps.items
-            ≡ map step_of self.old.steps.items ++ AskIndex card result ∷ [] }
+        ensures step { self.new.is_full ≡ false → map step_seen self.new.steps.items
+            ≡ map step_seen self.old.steps.items ++ AskIndex card result ∷ [] }
     {
         let answer = self.answers.index;
         self.keep(MemoryStep::AskIndex(card, answer));
@@ -189,8 +189,8 @@ impl NetworkSystem for MemorySockets {
         ensures answer { result ≡ self.old.answers.opened }
         ensures same { self.new.answers ≡ self.old.answers }
         ensures told { self.new.is_full ≡ false → self.old.is_full ≡ false }
-        ensures step { self.new.is_full ≡ false → map step_of self.new.steps.items
-            ≡ map step_of self.old.steps.items ++ OpenSocket address result ∷ [] }
+        ensures step { self.new.is_full ≡ false → map step_seen self.new.steps.items
+            ≡ map step_seen self.old.steps.items ++ OpenSocket address result ∷ [] }
     {
         let answer = self.answers.opened;
         self.keep(MemoryStep::OpenSocket(address, answer));
@@ -201,8 +201,8 @@ impl NetworkSystem for MemorySockets {
         ensures answer { result ≡ self.old.answers.tied }
         ensures same { self.new.answers ≡ self.old.answers }
         ensures told { self.new.is_full ≡ false → self.old.is_full ≡ false }
-        ensures step { self.new.is_full ≡ false → map step_of self.new.steps.items
-            ≡ map step_of self.old.steps.items ++ TieSocket place address card result ∷ [] }
+        ensures step { self.new.is_full ≡ false → map step_seen self.new.steps.items
+            ≡ map step_seen self.old.steps.items ++ TieSocket place address card result ∷ [] }
     {
         let answer = self.answers.tied;
         self.keep(MemoryStep::TieSocket(place, address, card, answer));
@@ -213,8 +213,8 @@ impl NetworkSystem for MemorySockets {
         ensures answer { result ≡ self.old.answers.sent }
         ensures same { self.new.answers ≡ self.old.answers }
         ensures told { self.new.is_full ≡ false → self.old.is_full ≡ false }
-        ensures step { self.new.is_full ≡ false → map step_of self.new.steps.items
-            ≡ map step_of self.old.steps.items ++ Send socket to bytes.now result ∷ [] }
+        ensures step { self.new.is_full ≡ false → map step_seen self.new.steps.items
+            ≡ map step_seen self.old.steps.items ++ Send socket to bytes.now result ∷ [] }
     {
         let answer = self.answers.sent;
         match Vec::from_slice(self.alloc, bytes) {
@@ -227,8 +227,8 @@ impl NetworkSystem for MemorySockets {
     fn open_neighbors(&mut self)
         ensures same { self.new.answers ≡ self.old.answers }
         ensures told { self.new.is_full ≡ false → self.old.is_full ≡ false }
-        ensures step { self.new.is_full ≡ false → map step_of self.new.steps.items
-            ≡ map step_of self.old.steps.items ++ OpenNeighbors ∷ [] }
+        ensures step { self.new.is_full ≡ false → map step_seen self.new.steps.items
+            ≡ map step_seen self.old.steps.items ++ OpenNeighbors ∷ [] }
     {
         self.keep(MemoryStep::OpenNeighbors);
     }
@@ -237,8 +237,8 @@ impl NetworkSystem for MemorySockets {
         ensures answer { result ≡ self.old.answers.row }
         ensures same { self.new.answers ≡ record self.old.answers { row = None } }
         ensures told { self.new.is_full ≡ false → self.old.is_full ≡ false }
-        ensures step { self.new.is_full ≡ false → map step_of self.new.steps.items
-            ≡ map step_of self.old.steps.items ++ ReadNeighbor result ∷ [] }
+        ensures step { self.new.is_full ≡ false → map step_seen self.new.steps.items
+            ≡ map step_seen self.old.steps.items ++ ReadNeighbor result ∷ [] }
     {
         let answer = self.answers.row;
         self.answers.row = None;

@@ -1,8 +1,8 @@
 ghost use Rattle.std.specs.Prelude.{◌≡◌, ◌≤◌, ℕ, ◌++◌, List, Option, length, map};
 ghost use Rattle.packet_paths.specs.NetworkLooks.{AreRowsRead, AreSourcesLooked, SourceAnswers};
 ghost use Rattle.packet_paths.specs.NetworkLooks.{can_send, source_after};
-ghost use Rattle.packet_paths.specs.NetworkLooks.{source_steps, tie_steps, tied_source, with_row};
-ghost use Rattle.packet_paths.specs.NetworkLooks.{with_rows};
+ghost use Rattle.packet_paths.specs.NetworkLooks.{source_steps, tie_steps, tied_source, after_row};
+ghost use Rattle.packet_paths.specs.NetworkLooks.{after_rows};
 ghost use Rattle.packet_paths.specs.NetworkSteps.{NetworkStep};
 ghost use Rattle.packet_paths.specs.PathLooks.{ArePathsFound, IsLooked, IsPathFound, path_or};
 ghost use Rattle.packet_paths.specs.Sends.{source_at};
@@ -152,7 +152,7 @@ fn look_at_sources<S: NetworkSystem>(
 fn read_rows<S: NetworkSystem>(system: &mut S, paths: &mut [Path])
     ensures told { S.tells system.new → S.tells system.old }
     ensures rows { (rows : List NeighborOf) × (steps : List NetworkStep) × AreRowsRead rows steps
-        × (paths.new ≡ map (with_rows rows) paths.old)
+        × (paths.new ≡ map (after_rows rows) paths.old)
         × (S.tells system.new → S.steps system.new ≡ S.steps system.old ++ steps) }
 {
     system.open_neighbors();
@@ -165,7 +165,7 @@ fn read_rows<S: NetworkSystem>(system: &mut S, paths: &mut [Path])
 }
 
 fn show_row(paths: &mut [Path], row: &Neighbor)
-    ensures { paths.new ≡ map (with_row row.now) paths.old }
+    ensures { paths.new ≡ map (after_row row.now) paths.old }
 {
     for path in paths.iter_mut() {
         path.take_row(row);

@@ -1,6 +1,6 @@
 ghost use Rattle.std.specs.Prelude.{◌≡◌, ◌≤◌, ◌<◌, ◌+◌, ◌++◌, List, Result, IfErr, IfOk, length};
 ghost use Rattle.std.specs.declared.io.ErrorKind.{ErrorKind as Kind};
-ghost use Rattle.packet_paths.specs.NetworkOpens.{IsFirstLook, IsNewSource, IsNotOpen, IsOpen};
+ghost use Rattle.packet_paths.specs.NetworkOpens.{IsNewPathLook, IsNewSource, IsNotOpen, IsOpen};
 ghost use Rattle.packet_paths.specs.Hosts.{path_place};
 ghost use Rattle.packet_paths.specs.NetworkOpens.{IsReached, IsSource, IsTaken};
 ghost use Rattle.packet_paths.specs.NetworkOpens.{first_source, new_source, source_place};
@@ -113,7 +113,7 @@ fn look_first<S: NetworkSystem>(
 )
     ensures told { S.tells system.new → S.tells system.old }
     ensures looked { (steps : List NetworkStep)
-        × IsFirstLook source route is_any_route path.old path.new steps
+        × IsNewPathLook source route is_any_route path.old path.new steps
         × (S.tells system.new → S.steps system.new ≡ S.steps system.old ++ steps) }
 {
     if let Some(source) = source {

@@ -3,10 +3,10 @@ ghost use Rattle.std.specs.declared.io.ErrorKind.{ErrorKind as Kind};
 ghost use Rattle.link_notices.specs.declared.sending.Sending.{Sending as SendingOf};
 ghost use Rattle.packet_paths.specs.NetworkSteps.{NetworkStep};
 ghost use Rattle.packet_paths.specs.Hosts.{host_path};
-ghost use Rattle.packet_paths.specs.Sends.{IsLookTo, IsOffer, IsSent, card_address};
+ghost use Rattle.packet_paths.specs.Sends.{IsLookTo, IsOffer, IsSent, address_and_card};
 ghost use Rattle.packet_paths.specs.Sends.{failure_after, packet_path, packet_sending};
 ghost use Rattle.packet_paths.specs.Sends.{packet_socket, path_at, path_of, path_source};
-ghost use Rattle.packet_paths.specs.Sends.{place_of, source_at, source_socket, with_path};
+ghost use Rattle.packet_paths.specs.Sends.{path_source_place, source_at, source_socket, with_path};
 
 use crate::hosts::{is_multicast, packet_place, path_place};
 use crate::network_system::NetworkSystem;
@@ -53,7 +53,7 @@ pub struct Source {
 impl Source {
     /// It and its card.
     pub fn card_address(&self) -> CardAddress
-        ensures { result ≡ card_address self.now }
+        ensures { result ≡ address_and_card self.now }
     {
         CardAddress {
             address: self.address,
@@ -166,7 +166,7 @@ impl NightPaths {
             × (S.tells system.new → S.steps system.new ≡ S.steps system.old ++ sent) }
     {
         let path = self.packet_path(to.host);
-        let place = place_of(&path);
+        let place = path_source_place(&path);
         let source = source_at(self.sources.as_slice(), place);
         let state = state_of(&source);
         let socket = source_socket(place, &source, to.host);
@@ -214,8 +214,8 @@ fn failure_after(
     }
 }
 
-fn place_of(path: &Option<Path>) -> Option<usize>
-    ensures { result ≡ place_of path.now }
+fn path_source_place(path: &Option<Path>) -> Option<usize>
+    ensures { result ≡ path_source_place path.now }
 {
     match path {
         Some(path) => path.source,

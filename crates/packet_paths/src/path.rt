@@ -1,19 +1,21 @@
 ghost use Rattle.std.specs.Prelude.{◌≡◌, ℕ, ◌&&◌, ◌++◌, ◌∷◌, [], List, Option, not, false, true};
 ghost use Rattle.std.specs.Prelude.{IfSome, IfNone, OnSome};
-ghost use Rattle.link_notices.specs.Offers.{sending};
+ghost use Rattle.link_notices.specs.Offers.{offer_of};
 ghost use Rattle.network_tables.specs.Neighbors.{silence_by};
+ghost use Rattle.network_tables.specs.declared.route.Route.{Route as RouteOf};
 ghost use Rattle.packet_paths.specs.Hosts.{host_path, is_multicast, is_nowhere, new_path};
 ghost use Rattle.packet_paths.specs.Hosts.{state_of_path};
 ghost use Rattle.packet_paths.specs.Routes.{IsFound, IsLookBefore, card_questions, is_fresh};
 ghost use Rattle.packet_paths.specs.Routes.{if_of, known_card, look_source, with_route};
-ghost use Rattle.packet_paths.specs.Takers.{asks_taker, same_taker, taker_questions, toward};
-ghost use Rattle.packet_paths.specs.Takers.{with_taker};
+ghost use Rattle.packet_paths.specs.Takers.{asks_taker, same_taker, table_questions, taker_by};
+ghost use Rattle.packet_paths.specs.Takers.{taker_questions, toward, with_taker};
 ghost use Rattle.packet_paths.specs.NetworkSteps.{NetworkStep};
 ghost use Rattle.packet_paths.specs.NetworkSteps.NetworkStep.{Ask};
 ghost use Rattle.packet_paths.specs.declared.system.Question.TheVariants as question;
 
 use crate::hosts::is_multicast;
 use crate::system::RouteSystem;
+use crate::takers::{first_taker, is_taken_here};
 use link_notices::{CardAddress, HostPath, PathState, Sending, SourceState};
 use network_tables::{Neighbor, silence_toward};
 
@@ -104,12 +106,12 @@ impl Path {
         ensures waits { (has_link && not (is_multicast self.old.host)) ≡ false
             → (self.new ≡ record self.old { has_link = has_link }) × (system.new ≡ system.old) }
         ensures looks { (has_link && not (is_multicast self.old.host)) ≡ true
-            → (route : Option (List ℕ)) × (taker : Option (List ℕ))
+            → (route : Option (List ℕ)) × (table : Option RouteOf)
             × IsFound route source self.old.route self.new.route
-            × (self.new ≡ with_route (toward route (record self.old { has_link = has_link }) taker)
+            × (self.new ≡ with_route (toward route (record self.old { has_link = has_link }) table)
             self.new.route source is_any_route)
             × (S.tells system.new → S.steps system.new ≡ S.steps system.old
-            ++ Ask (question.Source self.old.host route) ∷ taker_questions route self.old taker
+            ++ Ask (question.Source self.old.host route) ∷ taker_questions route self.old table
             ++ card_questions self.old.host source self.old.route self.new.route) }
     {
         self.has_link = has_link;
@@ -130,20 +132,34 @@ impl Path {
     )
         ensures told { S.tells system.new → S.tells system.old }
         ensures found { IsFound route source self.old.route self.new.route }
-        ensures path { (taker : Option (List ℕ))
-            × (self.new ≡ with_route (toward route self.old taker) self.new.route source
+        ensures path { (table : Option RouteOf)
+            × (self.new ≡ with_route (toward route self.old table) self.new.route source
             is_any_route)
             × (S.tells system.new → S.steps system.new ≡ S.steps system.old
-            ++ taker_questions route self.old taker
+            ++ taker_questions route self.old table
             ++ card_questions self.old.host source self.old.route self.new.route) }
     {
         if let Some(address) = route
             && self.asks_taker()
         {
-            let taker = system.neighbor_to(self.host, address);
+            let taker = self.find_taker(system, address);
             self.take_taker(taker);
         }
         self.look_for_card(system, source, route, is_any_route);
+    }
+
+    // Who takes the packets from this address first, by the main table.
+    fn find_taker<S: RouteSystem>(&self, system: &mut S, address: [u8; 4]) -> Option<[u8; 4]>
+        ensures told { S.tells system.new → S.tells system.old }
+        ensures taker { (table : Option RouteOf)
+            × (result ≡ taker_by self.now.host address table)
+            × (S.tells system.new → S.steps system.new
+            ≡ S.steps system.old ++ table_questions self.now.host address table) }
+    {
+        if is_taken_here(self.host, address) {
+            return None;
+        }
+        first_taker(self.host, system.route_to(self.host))
     }
 
     fn asks_taker(&self) -> bool
@@ -286,7 +302,7 @@ fn is_fresh(look: Option<u64>, now: Option<u64>) -> bool
 /// How a packet is offered to the system, by its path, if it has one; by how the address is that it
 /// is sent from, if it has one; and by whether any card will do.
 pub fn sending_of(path: Option<Path>, source: Option<SourceState>, is_any_route: bool) -> Sending
-    ensures { result ≡ sending (state_of_path path) source is_any_route }
+    ensures { result ≡ offer_of (state_of_path path) source is_any_route }
 {
     match path {
         Some(path) => Sending::choose(&path.state, source, is_any_route),

@@ -3,7 +3,7 @@ ghost use Rattle.packet_paths.specs.NetworkSteps.{NetworkStep};
 ghost use Rattle.packet_paths.specs.NetworkSteps.NetworkStep.{Ask};
 ghost use Rattle.packet_paths.specs.declared.system.Question.TheVariants as question;
 
-use network_tables::CardName;
+use network_tables::{CardName, Route};
 
 /// What the system was asked, and its answer.
 #[derive(Clone, Copy, Debug)]
@@ -14,8 +14,8 @@ pub enum Question {
     Source([u8; 4], Option<[u8; 4]>),
     /// Which card has this address, from which packets go to this host.
     Card([u8; 4], [u8; 4], CardName),
-    /// Who takes a packet to this host first that comes from this address.
-    Neighbor([u8; 4], [u8; 4], Option<[u8; 4]>),
+    /// Which route of the main table leads to this host.
+    Route([u8; 4], Option<Route>),
 }
 
 /// What the system knows of its routes.
@@ -47,9 +47,9 @@ pub trait RouteSystem {
         ensures question { tells self.new → steps self.new
             ≡ steps self.old ++ Ask (question.Card address host result) ∷ [] };
 
-    /// Who takes the packets from this address to a host first, where that is another machine.
-    fn neighbor_to(&mut self, host: [u8; 4], address: [u8; 4]) -> Option<[u8; 4]>
+    /// The route of the main table that leads to this host.
+    fn route_to(&mut self, host: [u8; 4]) -> Option<Route>
         ensures told { tells self.new → tells self.old }
-        ensures question { tells self.new → steps self.new
-            ≡ steps self.old ++ Ask (question.Neighbor host address result) ∷ [] };
+        ensures question { tells self.new
+            → steps self.new ≡ steps self.old ++ Ask (question.Route host result) ∷ [] };
 }

@@ -4,7 +4,7 @@ use crate::system_lines::{first_line, open_lines};
 use arrayvec::ArrayString;
 use byte_reading::ShortLine;
 use network_tables::{CardName, CardState, Cards, add_others, card_networks, own_addresses};
-use packet_paths::{card_from, card_of};
+use packet_paths::{card_from, cards_of};
 use std::fmt::Write;
 
 // A line for each card.
@@ -18,11 +18,7 @@ pub fn read_cards(rt: &HostRuntime) -> Cards {
     let networks = card_networks(&mut open_routes(rt));
     let own = own_addresses(&mut open_lines(rt, TREE));
     let mut system = SystemCards::new(rt);
-    let mut cards = Cards::new();
-    for address in own.as_slice() {
-        let name = card_of(&mut system, *address, own.as_slice(), networks.as_slice());
-        cards.add(name, Some(*address));
-    }
+    let mut cards = cards_of(&mut system, own.as_slice(), networks.as_slice());
     add_others(&mut cards, &mut open_lines(rt, NAMES));
     cards
 }

@@ -7,7 +7,6 @@
 
 mod appended_lines;
 mod bounded_output;
-mod card_sender;
 mod cards;
 mod cid_lock;
 mod descriptor_poll;
@@ -22,20 +21,19 @@ mod record;
 mod record_file;
 mod record_lock;
 mod routes;
+mod shared_network;
 mod socket;
 mod sockets;
 mod system_cards;
 mod system_lines;
-mod system_network;
 mod system_sockets;
 mod tied_socket;
 mod typed_input;
 mod way;
 mod written_record;
 
-pub use appended_lines::AppendedLines;
+pub use appended_lines::{AppendedLines, are_lines_there, lines_in_time};
 pub use bounded_output::{BoundedOutput, Names, PolledWay, open_output};
-pub use card_sender::CardSender;
 pub use cards::read_cards;
 pub use cid_lock::{CidLock, LockFault};
 pub use fault::DeviceFault;
@@ -46,12 +44,14 @@ pub use messages::{Messages, open_messages};
 pub use network::Network;
 pub use night_files::RecordFault;
 pub use output::SystemOutput;
-pub use packet_paths::{Leaving, Path, Source, hidden_cards, is_multicast, named_source};
+pub use packet_paths::{
+    Leaving, NamedRefusal, NetworkRefusal, Path, Source, is_multicast, source_by_name,
+};
 pub use record::Record;
 pub use record_file::{Pause, RecordFile};
 pub use record_lock::remove_unused_record;
 pub use routes::route_to;
+pub use shared_network::SharedNetwork;
 pub use socket::{AddressText, ReceivingSocket, SocketFault};
 pub use system_cards::SystemCards;
-pub use system_network::SystemNetwork;
 pub use typed_input::TypedInput;

@@ -8,13 +8,13 @@ use std::time::{Duration, Instant};
 #[derive(Drop)]
 pub struct SystemClock<'a> {
     rt: &'a HostRuntime,
-    /// When it was started.
-    pub start: Instant,
+    /// When it was started; none where no clock could be read then.
+    pub start: Option<Instant>,
 }
 
 impl<'a> SystemClock<'a> {
     /// A clock that was started then.
-    pub fn new(rt: &'a HostRuntime, start: Instant) -> Self {
+    pub fn new(rt: &'a HostRuntime, start: Option<Instant>) -> Self {
         SystemClock { rt, start }
     }
 }
@@ -25,6 +25,7 @@ impl MachineClock for SystemClock<'_> {
     ghost tape = { λ _. record { items = []; failures = 0 } };
 
     fn time_passed(&mut self) -> Result<Duration, LinkFault> {
-        self.start.elapsed(self.rt).map_err(|_| LinkFault)
+        let start = self.start.ok_or(LinkFault)?;
+        start.elapsed(self.rt).map_err(|_| LinkFault)
     }
 }

@@ -1,8 +1,10 @@
-use crate::socket::{AddressText, SocketFault, text_of};
-use crate::sockets::{Sockets, socket_address};
+use crate::socket::{AddressText, text_of};
+use crate::sockets::Sockets;
 use crate::system_sockets::SystemSockets;
-use link_notices::NetworkLook;
-use packet_paths::{Leaving, NightPaths, Path, Source};
+use link_notices::{LinkNotices, NetworkLook};
+use packet_paths::{
+    Leaving, NetworkRefusal, NightPaths, Path, RoutedNotices, Source, socket_address,
+};
 use std::io::ErrorKind;
 use targets::{Address, Targets};
 
@@ -18,18 +20,16 @@ impl Network {
     ///
     /// # Errors
     ///
-    /// The system's reason where one cannot be had.
+    /// The system's reason where one cannot be had; the route that refuses the night.
     pub fn open(
         rt: &HostRuntime,
         targets: &Targets,
         leaving: Leaving,
-    ) -> Result<Network, SocketFault> {
-        let mut sockets = Sockets::open(rt, leaving)?;
+    ) -> Result<Network, NetworkRefusal> {
+        let mut sockets = Sockets::open(rt, leaving).map_err(NetworkRefusal::Socket)?;
         let mut system = SystemSockets::new(rt, &mut sockets);
-        match NightPaths::open(&mut system, targets, leaving) {
-            Ok(night) => Ok(Network { night, sockets }),
-            Err(fault) => Err(SocketFault::at(fault.address, fault.kind)),
-        }
+        let night = NightPaths::open_unless_refused(&mut system, targets, leaving)?;
+        Ok(Network { night, sockets })
     }
 
     /// The addresses that packets come from.
@@ -42,15 +42,10 @@ impl Network {
         self.night.paths.as_slice()
     }
 
-    /// The source of a path, where there is one.
-    pub fn source_of(&self, path: &Path) -> Option<&Source> {
-        self.night.source_of(path)
-    }
-
     /// Where the last packet that was lost went to, and the reason.
     pub fn failure(&self) -> Option<(AddressText, ErrorKind)> {
         let (address, kind) = self.night.failure?;
-        Some((text_of(socket_address(address)), kind))
+        Some((text_of(socket_address(address.host, address.port)), kind))
     }
 
     /// What is known of the addresses and the ways, as the last look found them.
@@ -62,6 +57,12 @@ impl Network {
     pub fn look(&mut self, rt: &HostRuntime) {
         let mut system = SystemSockets::new(rt, &mut self.sockets);
         self.night.look(&mut system);
+    }
+
+    /// Looks for the routes that are told with these notices.
+    pub fn route_notices(&mut self, rt: &HostRuntime, notices: &LinkNotices) -> RoutedNotices {
+        let mut system = SystemSockets::new(rt, &mut self.sockets);
+        self.night.route_notices(&mut system, notices.as_slice())
     }
 
     /// Sends a datagram.

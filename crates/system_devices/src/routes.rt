@@ -1,7 +1,8 @@
 use crate::system_lines::{SystemFile, open_lines};
 use byte_reading::ShortLines;
 use network_tables::{Route, best_route};
-use std::net::{IpAddr, SocketAddr, UdpSocket};
+use packet_paths::socket_address;
+use std::net::{SocketAddr, UdpSocket};
 
 const ROUTES: &str = "/proc/net/route";
 
@@ -21,11 +22,8 @@ pub fn route_to(rt: &HostRuntime, host: [u8; 4]) -> Option<Route> {
 /// The address that a packet to this host would come from: the one that the system's route gives.
 /// No packet is sent.
 pub fn source_to(rt: &HostRuntime, host: [u8; 4]) -> Option<[u8; 4]> {
-    let any = SocketAddr::new(IpAddr::from([0, 0, 0, 0]), 0);
-    let socket = UdpSocket::bind(rt, any).ok()?;
-    socket
-        .connect(SocketAddr::new(IpAddr::from(host), PORT))
-        .ok()?;
+    let socket = UdpSocket::bind(rt, socket_address([0, 0, 0, 0], 0)).ok()?;
+    socket.connect(socket_address(host, PORT)).ok()?;
     match socket.local_addr() {
         Ok(SocketAddr::V4(address)) => Some(address.ip().octets()),
         _ => None,
@@ -34,5 +32,5 @@ pub fn source_to(rt: &HostRuntime, host: [u8; 4]) -> Option<[u8; 4]> {
 
 /// Whether this machine has the address, by a card that is up.
 pub fn is_of_this_machine(rt: &HostRuntime, address: [u8; 4]) -> bool {
-    UdpSocket::bind(rt, SocketAddr::new(IpAddr::from(address), 0)).is_ok()
+    UdpSocket::bind(rt, socket_address(address, 0)).is_ok()
 }

@@ -3,10 +3,10 @@ ghost use Rattle.std.specs.Prelude.{[]};
 use arrayvec::ArrayString;
 use devices::{Datagrams, LinkFault};
 use job_devices::JobSource;
-use packet_paths::{SocketCall, call_again, send_whole};
+use packet_paths::{OpenFault, SocketCall, call_again, send_whole, socket_address};
 use std::fmt::Write;
 use std::io::ErrorKind;
-use std::net::{IpAddr, Net, SocketAddr, UdpSocket};
+use std::net::{Net, SocketAddr, UdpSocket};
 
 /// Why a socket cannot be had at an address of this machine: the system's reason.
 #[derive(Debug, Drop)]
@@ -16,12 +16,15 @@ pub struct SocketFault {
 }
 
 impl SocketFault {
+    /// Why none can be had at an address and a port.
+    fn at(address: SocketAddr, kind: ErrorKind) -> SocketFault {
+        let address = text_of(address);
+        SocketFault { address, kind }
+    }
+
     /// Why none can be had at an address, whichever port the system chooses.
-    pub fn at(address: [u8; 4], kind: ErrorKind) -> SocketFault {
-        SocketFault {
-            address: text_of(SocketAddr::new(IpAddr::from(address), 0)),
-            kind,
-        }
+    pub fn of_night(fault: OpenFault) -> SocketFault {
+        SocketFault::at(socket_address(fault.address, 0), fault.kind)
     }
 }
 
@@ -35,10 +38,15 @@ pub struct ReceivingSocket {
 impl ReceivingSocket {
     /// A socket at an IPv4 address and a port of this machine.
     pub fn bind(rt: &impl Net, at: ([u8; 4], u16)) -> Result<Self, SocketFault> {
-        Ok(ReceivingSocket {
-            inner: bind(rt, at)?,
-            failure: None,
-        })
+        let (host, port) = at;
+        let address = socket_address(host, port);
+        match UdpSocket::bind(rt, address) {
+            Ok(inner) => Ok(ReceivingSocket {
+                inner,
+                failure: None,
+            }),
+            Err(error) => Err(SocketFault::at(address, error.kind())),
+        }
     }
 
     /// Where it receives, with the port that the system chose where none was asked for.
@@ -145,17 +153,4 @@ pub fn text_of(address: SocketAddr) -> AddressText {
     let mut text = AddressText::new();
     let _ = write!(text, "{address}");
     text
-}
-
-/// A socket at an IPv4 address and a port of this machine.
-pub fn bind(rt: &impl Net, at: ([u8; 4], u16)) -> Result<UdpSocket, SocketFault> {
-    let (host, port) = at;
-    let address = SocketAddr::new(IpAddr::from(host), port);
-    match UdpSocket::bind(rt, address) {
-        Ok(socket) => Ok(socket),
-        Err(error) => Err(SocketFault {
-            address: text_of(address),
-            kind: error.kind(),
-        }),
-    }
 }

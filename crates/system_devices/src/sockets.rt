@@ -1,19 +1,19 @@
-use crate::socket::{SocketFault, bind};
 use crate::system_lines::SystemFile;
-use crate::tied_socket::TiedSocket;
 use arrayvec::ArrayVec;
 use byte_reading::ShortLines;
 use link_notices::MOST_SOURCES;
-use packet_paths::Leaving;
-use std::net::{IpAddr, SocketAddr, UdpSocket};
+use packet_paths::{Leaving, NightSocket, OpenFault, socket_address};
+use std::io;
+use std::net::UdpSocket;
 use std::time::Instant;
-use targets::Address;
+
+const ANY: [u8; 4] = [0, 0, 0, 0];
 
 /// The sockets of a source: one that is bound to its address, and one that is tied to its card.
 #[derive(Default, Drop)]
 pub struct SourceSockets {
     pub bound: Option<UdpSocket>,
-    pub tied: Option<TiedSocket>,
+    pub tied: Option<UdpSocket>,
 }
 
 /// The sockets of a night, and what else of the system is kept between two looks.
@@ -35,21 +35,32 @@ impl Sockets {
     /// # Errors
     ///
     /// The system's reason.
-    pub fn open(rt: &HostRuntime, leaving: Leaving) -> Result<Sockets, SocketFault> {
+    pub fn open(rt: &HostRuntime, leaving: Leaving) -> Result<Sockets, OpenFault> {
         let start = Instant::now(rt).ok();
-        Ok(Sockets {
-            leaving,
-            start,
-            unbound: socket_at(rt, [0, 0, 0, 0], leaving)?,
-            sources: ArrayVec::new(),
-            neighbors: None,
-        })
+        match socket_at(rt, ANY, leaving) {
+            Ok(unbound) => Ok(Sockets {
+                leaving,
+                start,
+                unbound,
+                sources: ArrayVec::new(),
+                neighbors: None,
+            }),
+            Err(error) => Err(OpenFault {
+                address: ANY,
+                kind: error.kind(),
+            }),
+        }
     }
-}
 
-/// An address as the system takes it.
-pub fn socket_address(to: Address) -> SocketAddr {
-    SocketAddr::new(IpAddr::from(to.host), to.port)
+    /// One of them, where it is there.
+    pub fn get(&self, socket: NightSocket) -> Option<&UdpSocket> {
+        let sources = self.sources.as_slice();
+        match socket {
+            NightSocket::Unbound => Some(&self.unbound),
+            NightSocket::Bound(place) => sources.get(place)?.bound.as_ref(),
+            NightSocket::Tied(place) => sources.get(place)?.tied.as_ref(),
+        }
+    }
 }
 
 /// A socket at an address, by which packets leave so.
@@ -57,20 +68,9 @@ pub fn socket_address(to: Address) -> SocketAddr {
 /// # Errors
 ///
 /// The system's reason.
-pub fn socket_at(
-    rt: &HostRuntime,
-    address: [u8; 4],
-    leaving: Leaving,
-) -> Result<UdpSocket, SocketFault> {
-    let socket = bind(rt, (address, 0))?;
-    let set = if leaving.never_waits {
-        socket.set_nonblocking(true)
-    } else {
-        Ok(())
-    };
-    let set = set.and_then(|_| socket.set_multicast_ttl_v4(leaving.ttl.into()));
-    match set {
-        Ok(()) => Ok(socket),
-        Err(error) => Err(SocketFault::at(address, error.kind())),
-    }
+pub fn socket_at(rt: &HostRuntime, address: [u8; 4], leaving: Leaving) -> io::Result<UdpSocket> {
+    let socket = UdpSocket::bind(rt, socket_address(address, 0))?;
+    socket.set_nonblocking(leaving.never_waits)?;
+    socket.set_multicast_ttl_v4(leaving.ttl.into())?;
+    Ok(socket)
 }

@@ -3,13 +3,12 @@ ghost use Rattle.std.specs.Prelude.{[]};
 use crate::cards::{card_index, card_state, card_to};
 use crate::routes::{is_of_this_machine, route_to, source_to};
 use crate::socket::send_datagram;
-use crate::sockets::{Sockets, SourceSockets, socket_address, socket_at};
+use crate::sockets::{Sockets, SourceSockets, socket_at};
 use crate::system_lines::open_lines;
-use crate::tied_socket::TiedSocket;
-use network_tables::{CardName, CardState, Neighbor, next_neighbor};
-use packet_paths::{NetworkSystem, NightSocket, RouteSystem, first_taker, is_taken_here};
+use crate::tied_socket::open_tied;
+use network_tables::{CardName, CardState, Neighbor, Route, next_neighbor};
+use packet_paths::{NetworkSystem, NightSocket, RouteSystem, destination};
 use std::io::ErrorKind;
-use std::net::UdpSocket;
 use std::time::Instant;
 use targets::Address;
 
@@ -25,11 +24,6 @@ pub struct SystemSockets<'a> {
 impl<'a> SystemSockets<'a> {
     pub fn new(rt: &'a HostRuntime, sockets: &'a mut Sockets) -> SystemSockets<'a> {
         SystemSockets { rt, sockets }
-    }
-
-    fn source_at(&self, place: usize) -> Result<&SourceSockets, ErrorKind> {
-        let source = self.sockets.sources.as_slice().get(place);
-        source.ok_or(ErrorKind::NotFound)
     }
 }
 
@@ -52,11 +46,8 @@ impl RouteSystem for SystemSockets<'_> {
         card_to(self.rt, address, host)
     }
 
-    fn neighbor_to(&mut self, host: [u8; 4], address: [u8; 4]) -> Option<[u8; 4]> {
-        if is_taken_here(host, address) {
-            return None;
-        }
-        first_taker(host, route_to(self.rt, host))
+    fn route_to(&mut self, host: [u8; 4]) -> Option<Route> {
+        route_to(self.rt, host)
     }
 }
 
@@ -75,34 +66,26 @@ impl NetworkSystem for SystemSockets<'_> {
 
     fn open_socket(&mut self, address: [u8; 4]) -> Result<(), ErrorKind> {
         let opened = socket_at(self.rt, address, self.sockets.leaving);
-        let bound = Some(opened.map_err(|fault| fault.kind)?);
-        let _ = self
-            .sockets
-            .sources
-            .try_push(SourceSockets { bound, tied: None });
+        let source = SourceSockets {
+            bound: Some(opened.map_err(|error| error.kind())?),
+            tied: None,
+        };
+        let _ = self.sockets.sources.try_push(source);
         Ok(())
     }
 
     fn tie_socket(&mut self, place: usize, address: [u8; 4], card: CardName) -> Option<u32> {
-        let waits = !self.sockets.leaving.never_waits;
-        let tied = TiedSocket::open(self.rt, address, card.as_str(), waits);
-        let index = tied.as_ref().map(TiedSocket::index);
-        if let Some(source) = self.sockets.sources.as_mut_slice().get_mut(place) {
-            source.tied = tied;
-        }
-        index
+        let never_waits = self.sockets.leaving.never_waits;
+        let source = self.sockets.sources.as_mut_slice().get_mut(place)?;
+        source.tied = None;
+        let index = card_index(self.rt, card.as_str())?;
+        source.tied = open_tied(self.rt, address, index, never_waits);
+        source.tied.as_ref().map(|_| index)
     }
 
     fn send(&mut self, socket: NightSocket, to: Address, bytes: &[u8]) -> Result<(), ErrorKind> {
-        match socket {
-            NightSocket::Unbound => send_bound(Some(&self.sockets.unbound), to, bytes),
-            NightSocket::Bound(place) => send_bound(
-                self.source_at(place)?.bound.as_ref(),
-                to,
-                bytes,
-            ),
-            NightSocket::Tied(place) => send_tied(self.source_at(place)?.tied.as_ref(), to, bytes),
-        }
+        let by = self.sockets.get(socket).ok_or(ErrorKind::NotFound)?;
+        send_datagram(by, bytes, destination(socket, to))
     }
 
     fn open_neighbors(&mut self) {
@@ -116,18 +99,4 @@ impl NetworkSystem for SystemSockets<'_> {
         }
         row
     }
-}
-
-fn send_bound(socket: Option<&UdpSocket>, to: Address, bytes: &[u8]) -> Result<(), ErrorKind> {
-    send_datagram(
-        socket.ok_or(ErrorKind::NotFound)?,
-        bytes,
-        socket_address(to),
-    )
-}
-
-fn send_tied(socket: Option<&TiedSocket>, to: Address, bytes: &[u8]) -> Result<(), ErrorKind> {
-    socket
-        .ok_or(ErrorKind::NotFound)?
-        .send(bytes, to.host, to.port)
 }

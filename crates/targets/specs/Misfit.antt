@@ -18,8 +18,8 @@ unless_among universes universe = if list_any (λ n. n == universe) universes
 
 -- the first or the last universe for which a target is named, where a show with these universes
 -- does not have it
-abbrev pub foreign : List ℕ → Target → Option TargetMisfit
-foreign universes target =
+abbrev pub foreign_universe : List ℕ → Target → Option TargetMisfit
+foreign_universe universes target =
     option_and_then (λ named. option_or (unless_among universes named.first)
     (unless_among universes named.last)) target.universes
 
@@ -42,5 +42,5 @@ lack targets universe = lack_of universe (addresses_of universe targets)
 -- a target or with one twice
 abbrev pub misfit_of : List ℕ → List Target → Option TargetMisfit
 misfit_of universes targets =
-    option_or (slice_get (filter_map (foreign universes) targets) 0)
+    option_or (slice_get (filter_map (foreign_universe universes) targets) 0)
     (slice_get (filter_map (lack targets) universes) 0)

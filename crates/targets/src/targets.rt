@@ -2,7 +2,7 @@ ghost use Rattle.std.specs.Prelude.{◌≡◌, ◌≤◌, ◌<◌, List, [], ◌
 ghost use Rattle.std.specs.List.{list_any};
 ghost use Rattle.targets.specs.Address.{is_same};
 ghost use Rattle.targets.specs.Choice.{addresses_of, is_named};
-ghost use Rattle.targets.specs.Misfit.{foreign, lack, misfit_of, first_repeat};
+ghost use Rattle.targets.specs.Misfit.{foreign_universe, lack, misfit_of, first_repeat};
 ghost use Rattle.targets.specs.declared.target.Target.{Target};
 
 use crate::{Address, Target, TargetMisfit};
@@ -91,7 +91,7 @@ impl Targets {
         ensures { result ≡ misfit_of universes.now self.now }
     {
         for target in self.as_slice() {
-            if let Some(misfit) = foreign(target, universes) {
+            if let Some(misfit) = foreign_universe(target, universes) {
                 return Some(misfit);
             }
         }
@@ -117,8 +117,8 @@ impl Targets {
 }
 
 // A universe for which the target is named, and which is none of the show's.
-fn foreign(target: &Target, universes: &[u16]) -> Option<TargetMisfit>
-    ensures { result ≡ foreign universes.now target.now }
+fn foreign_universe(target: &Target, universes: &[u16]) -> Option<TargetMisfit>
+    ensures { result ≡ foreign_universe universes.now target.now }
 {
     let named = target.universes?;
     if !universes.contains(&named.first) {

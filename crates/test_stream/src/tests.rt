@@ -16,6 +16,7 @@ mod queue;
 mod receiver;
 mod record_head;
 mod record_keeper;
+mod record_lines;
 mod replies;
 mod routes;
 mod screen;

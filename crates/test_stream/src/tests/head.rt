@@ -1,6 +1,6 @@
 use devices::memory::Faults;
 use night_record::memory::MemoryLines;
-use night_record::{LineFront, LineStep, head_within};
+use night_record::{LOOK_TURN, LineFront, LineStep, head_within};
 use std::alloc::Global;
 use std::process::Abort;
 
@@ -47,7 +47,8 @@ fn holds(alloc: Global, row: &Row) -> bool {
     let coming = &lines[..record.lines.min(2)];
     let faults = Faults::new(record.passing, 1);
     let mut memory = MemoryLines::new(alloc, coming, record.gap, faults);
-    let is_head = match head_within(&mut memory, record.turns) {
+    let most = record.turns.saturating_mul(LOOK_TURN);
+    let is_head = match head_within(&mut memory, most) {
         Some(head) => head.as_slice() == b"! cueplayer record 1: show\n! cid".as_slice(),
         None => false,
     };

@@ -1,7 +1,6 @@
 use link_notices::CardAddress;
-use network_tables::CardName;
-use packet_paths::Path;
-use packet_paths::memory::{MemorySystem, RouteAnswers};
+use network_tables::{CardName, CardState};
+use packet_paths::{MemorySockets, NetworkAnswers, Path};
 use std::alloc::Global;
 use std::process::Abort;
 
@@ -49,14 +48,21 @@ fn name(text: &str) -> CardName {
 }
 
 // A system without a clock, from which no route leads.
-fn system(alloc: Global) -> MemorySystem {
-    let answers = RouteAnswers {
+fn system(alloc: Global) -> MemorySockets {
+    let answers = NetworkAnswers {
         time: None,
         source: None,
         card: name("eth0"),
-        neighbor: None,
+        route: None,
+        state: CardState::Up,
+        is_own: true,
+        index: None,
+        opened: Ok(()),
+        tied: None,
+        sent: Ok(()),
+        row: None,
     };
-    MemorySystem::new(alloc, answers)
+    MemorySockets::new(alloc, answers)
 }
 
 fn own() -> CardAddress {
@@ -77,7 +83,7 @@ fn leads(path: &Path, way: Way) -> bool {
 }
 
 // Whether a look before a packet is as the row has it.
-fn holds(system: &mut MemorySystem, path: &mut Path, row: &Row) -> bool {
+fn holds(system: &mut MemorySockets, path: &mut Path, row: &Row) -> bool {
     let (before, times, way) = *row;
     system.answers.time = before.time;
     system.answers.source = before.source;
@@ -85,10 +91,10 @@ fn holds(system: &mut MemorySystem, path: &mut Path, row: &Row) -> bool {
     let asked = system.steps.len();
     path.look_before(system, Some(own()), false);
     let all = system.steps.len();
-    !system.full && all.saturating_sub(asked) == times && leads(path, way)
+    !system.is_full && all.saturating_sub(asked) == times && leads(path, way)
 }
 
-fn hold_each(rt: &impl Abort, system: &mut MemorySystem, rows: &[Row]) {
+fn hold_each(rt: &impl Abort, system: &mut MemorySockets, rows: &[Row]) {
     let mut path = Path::new(HOST, Some(0), true);
     for row in rows {
         assert!(rt; holds(system, &mut path, row));
@@ -120,5 +126,5 @@ fn multicast_and_any_route_need_no_look(rt: HostRuntime) {
     path.look_before(&mut system, Some(own()), true);
     let mut group = Path::new([239, 255, 0, 1], Some(0), true);
     group.look_before(&mut system, Some(own()), false);
-    assert!(rt; system.steps.is_empty() && !system.full);
+    assert!(rt; system.steps.is_empty() && !system.is_full);
 }

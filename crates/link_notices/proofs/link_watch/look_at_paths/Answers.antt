@@ -1,7 +1,7 @@
 use Rattle.std.proofs.Common.{◌≡◌, ◌∙◌, ◌++◌, ◌∷◌, [], refl, ap, arith}
 use Rattle.link_notices.specs.declared.watch.PathWatch.{PathWatch}
 use Rattle.link_notices.specs.Watches.{path_news, path_notice, path_watch}
-use Rattle.link_notices.proofs.Looks.{one_all, one_more, place_all, place_more}
+use Rattle.link_notices.proofs.Looks.{one_all, one_more, place_all, pushed_more}
 use Rattle.link_notices.proofs.link_watch.look_at_paths.Goals as goal
 
 pub loop-place-preserved : goal.loop-place-preserved
@@ -18,12 +18,9 @@ loop-place-preserved c =
     ap {B = PathWatch} (λ t. record { told = t })
     (rw (c.path_at-watch.ensures, c.path_look.ensures) at c.look-notice.ensures.told) in
     record {
-      notices = c.push_path.ensures.notices ∙ ap (λ l. c.loop-place.notices.items ++ l) told
-          ∙ ap (λ x. c.loop-place.notices.items ++ path_news sources watches (place, x))
-          is
-          ∙ place_more (path_news sources watches) c.loop-place.notices.items
-          c.args.notices.now.items c.args.look.now.paths.items place path
-          inside c.loop-place.invariant.notices;
+      notices = pushed_more (path_news sources watches) c.loop-place.notices.items
+          c.args.notices.now.items _ _ c.args.look.now.paths.items place path path inside
+          c.loop-place.invariant.notices is told c.push_path.ensures.notices;
       room = omega (arith, c.push_path.ensures.room, c.loop-place.invariant.room);
       told = c.push.ensures.items ∙ ap (λ x. c.loop-place.after.items ++ x ∷ []) watch
           ∙ ap (λ x. c.loop-place.after.items ++ path_watch sources watches (place, x) ∷ [])

@@ -1,7 +1,7 @@
 use Rattle.std.proofs.Common.{◌∙◌, ◌++◌, ◌∷◌, [], ap, arith, inl, inr}
 use Rattle.std.proofs.Common.{◌+◌, length-append, map, refl}
 use Rattle.std.specs.Prelude.{None, Some}
-use Rattle.packet_paths.specs.NetworkLooks.{read_rows, with_row}
+use Rattle.packet_paths.specs.NetworkLooks.{read_rows, after_row}
 use Rattle.packet_paths.specs.NetworkSteps.NetworkStep.{OpenNeighbors, ReadNeighbor}
 use Rattle.packet_paths.proofs.RowsShown.{none_shown, one_read, one_shown}
 use Rattle.packet_paths.proofs.StepsInOrder.{behind}
@@ -38,7 +38,7 @@ loop-preserved g c =
       shown = (
         rows ++ row ∷ [],
         length-append rows (row ∷ []) ∙ ap (λ n. n + 1) count,
-        c.show_row.ensures ∙ ap (map (with_row row)) shown
+        c.show_row.ensures ∙ ap (map (after_row row)) shown
             ∙ one_shown rows row c.args.paths.now,
         λ now. behind S.tells S.steps c.args.system.now c.loop.system c.next_neighbor.new.self read
             (ReadNeighbor (Some row) ∷ []) c.next_neighbor.ensures.told told

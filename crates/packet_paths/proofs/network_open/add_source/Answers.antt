@@ -3,7 +3,7 @@ use Rattle.std.specs.Prelude.{Ok, Some}
 use Rattle.packet_paths.specs.NetworkLooks.{tie_steps, tied_source}
 use Rattle.packet_paths.specs.NetworkSteps.NetworkStep.{OpenSocket}
 use Rattle.packet_paths.proofs.Rooms.{no_place, no_room, place, room}
-use Rattle.packet_paths.proofs.StepsInOrder.{behind}
+use Rattle.packet_paths.proofs.StepsInOrder.{tied_behind}
 use Rattle.packet_paths.proofs.network_open.add_source.Goals as goal
 
 pub returns-in-Ok-clause-source : goal.returns-in-Ok-clause-source
@@ -25,15 +25,10 @@ returns-in-Ok-clause-source g c =
         ap Ok (ap Some c.len-place.ensures.value ∙ place before within),
         refl,
       ),
-      behind S.tells S.steps c.args.system.now c.open_socket.new.self c.tie.new.system
-          (OpenSocket source.address opened ∷ [])
-          (tie_steps any (length before) source index tied) c.tie.ensures.told
-          (λ now. c.open_socket.ensures.step now
-          ∙ ap (λ answer. S.steps c.args.system.now ++ OpenSocket source.address answer ∷ [])
-          c.in_default.is)
-          (λ now. told now
-          ∙ ap (λ n. S.steps c.open_socket.new.self ++ tie_steps any n source index tied)
-          c.len-place.ensures.value),
+      tied_behind S.tells S.steps c.args.system.now c.open_socket.new.self c.tie.new.system
+          source.address _ opened _ (length before) (λ n. tie_steps any n source index tied)
+          c.in_default.is c.len-place.ensures.value c.tie.ensures.told c.open_socket.ensures.step
+          told,
     )
 
 pub returns-in-Err-try_push-clause-source : goal.returns-in-Err-try_push-clause-source
@@ -55,13 +50,8 @@ returns-in-Err-try_push-clause-source g c =
         ap Ok (no_place before full),
         refl,
       ),
-      behind S.tells S.steps c.args.system.now c.open_socket.new.self c.tie.new.system
-          (OpenSocket source.address opened ∷ [])
-          (tie_steps any (length before) source index tied) c.tie.ensures.told
-          (λ now. c.open_socket.ensures.step now
-          ∙ ap (λ answer. S.steps c.args.system.now ++ OpenSocket source.address answer ∷ [])
-          c.in_default.is)
-          (λ now. told now
-          ∙ ap (λ n. S.steps c.open_socket.new.self ++ tie_steps any n source index tied)
-          c.len-place.ensures.value),
+      tied_behind S.tells S.steps c.args.system.now c.open_socket.new.self c.tie.new.system
+          source.address _ opened _ (length before) (λ n. tie_steps any n source index tied)
+          c.in_default.is c.len-place.ensures.value c.tie.ensures.told c.open_socket.ensures.step
+          told,
     )

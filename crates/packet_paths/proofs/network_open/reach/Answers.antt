@@ -1,6 +1,6 @@
 use Rattle.std.proofs.Common.{◌≡◌, ◌∙◌, ◌∷◌, ◌++◌, [], ap, append-nil, refl, rules, subst, sym}
 use Rattle.std.specs.Prelude.{Err, None, Ok, Some}
-use Rattle.packet_paths.specs.NetworkOpens.{IsFirstLook, IsPathBy, IsPathFrom, first_source}
+use Rattle.packet_paths.specs.NetworkOpens.{IsNewPathLook, IsPathBy, IsPathFrom, first_source}
 use Rattle.packet_paths.specs.NetworkSteps.NetworkStep.{Ask}
 use Rattle.packet_paths.specs.Sockets.{source_address}
 use Rattle.packet_paths.specs.declared.system.Question.TheVariants as question
@@ -92,9 +92,9 @@ returns-clause-reached g c =
                   (sym c.in_ok-place.was) (
                     path,
                     refl,
-                    subst (λ p. IsFirstLook (first_source after p) route any p path looked)
+                    subst (λ p. IsNewPathLook (first_source after p) route any p path looked)
                         c.new-path.ensures
-                        (subst (λ s. IsFirstLook s route any c.new-path.result path looked) from first),
+                        (subst (λ s. IsNewPathLook s route any c.new-path.result path looked) from first),
                   ),
               refl,
             ),

@@ -3,6 +3,6 @@ use Rattle.network_tables.proofs.tree.TreeLine.read.Goals as goal
 
 pub returns-in-Err : goal.returns-in-Err
 returns-in-Err c = (
-  sym c.is_own.ensures ∙ c.if-is_own.false,
+  sym c.is_own_line.ensures ∙ c.if-is_own_line.false,
   λ _ address is. c.in-Err.ensures address (rw c.field.ensures is),
 )

@@ -1,5 +1,5 @@
 use Rattle.std.proofs.Common.{◌∙◌, ◌++◌, ap, map, refl, subst}
-use Rattle.packet_paths.specs.NetworkLooks.{AreSourcesLooked, with_rows}
+use Rattle.packet_paths.specs.NetworkLooks.{AreSourcesLooked, after_rows}
 use Rattle.packet_paths.specs.PathLooks.{ArePathsFound}
 use Rattle.packet_paths.proofs.RowsShown.{shown_all}
 use Rattle.packet_paths.proofs.StepsInOrder.{behind}
@@ -29,7 +29,7 @@ returns-clause-looked g c =
             of_paths) c.as_slice-paths.ensures.value are_found;
         rows_read = are_read;
         paths_after = shown_all rows found c.read_rows.new.paths
-            (shown ∙ ap (map (with_rows rows)) c.as_mut_slice.ensures.value);
+            (shown ∙ ap (map (after_rows rows)) c.as_mut_slice.ensures.value);
         in_order = refl;
         kept = refl;
       },

@@ -1,0 +1,114 @@
+ghost use Rattle.std.specs.Prelude.{◌≡◌, ◌++◌, List, codes, option_map};
+ghost use Rattle.packet_paths.specs.NetworkSteps.{NetworkStep};
+ghost use Rattle.packet_paths.specs.RefusedRoutes.{IsNightOpen, card_told, path_refusal};
+ghost use Rattle.packet_paths.specs.RefusedRoutes.{refusal_seen, refused_path, refused_route};
+ghost use Rattle.link_notices.specs.Paths.{refused_card};
+ghost use Rattle.std.specs.Option.{is_some};
+
+use crate::network_system::NetworkSystem;
+use crate::night_paths::{Leaving, NightPaths, Source, source_at};
+use crate::open_fault::OpenFault;
+use crate::path::Path;
+use network_tables::CardName;
+use targets::Targets;
+
+// In the place of a card's name.
+const NO_NAME: &str = "the card";
+
+/// A route that refuses a night, for which a card is named.
+#[derive(Clone, Copy, Debug)]
+pub struct RefusedRoute {
+    /// It leads to this host.
+    pub host: [u8; 4],
+    /// The card that packets are to leave by.
+    pub card: CardName,
+    /// The card that it leads by.
+    pub other: CardName,
+}
+
+/// Why a night does not have its network.
+#[derive(Clone, Copy, Debug)]
+pub enum NetworkRefusal {
+    /// A socket cannot be had.
+    Socket(OpenFault),
+    /// A route leads by another card than the one that is named.
+    Route(RefusedRoute),
+}
+
+impl NightPaths {
+    /// The first route that refuses the night.
+    pub fn refused_route(&self) -> Option<RefusedRoute>
+        ensures { option_map refusal_seen result ≡ refused_route self.now }
+    {
+        let is_named = self.leaving.source.is_some();
+        let path = refused_path(is_named, self.paths.as_slice())?;
+        self.path_refusal(is_named, &path)
+    }
+
+    fn path_refusal(&self, is_named: bool, path: &Path) -> Option<RefusedRoute>
+        ensures { option_map refusal_seen result
+            ≡ path_refusal self.now.sources.items is_named path.now }
+    {
+        let other = path.state.refused_card(is_named)?;
+        let card = card_told(&source_at(self.sources.as_slice(), path.source));
+        let host = path.host;
+        Some(RefusedRoute { host, card, other })
+    }
+
+    /// Opens the network of a night as [`NightPaths::open`] does, and then refuses it where a route
+    /// does.
+    ///
+    /// # Errors
+    ///
+    /// `Socket` where a socket cannot be had; `Route` where a route refuses the night.
+    pub fn open_unless_refused<S: NetworkSystem>(
+        system: &mut S,
+        targets: &Targets,
+        leaving: Leaving,
+    ) -> Result<NightPaths, NetworkRefusal>
+        ensures told { S.tells system.new → S.tells system.old }
+        ensures opened { (steps : List NetworkStep)
+            × IsNightOpen leaving targets.now result steps
+            × (S.tells system.new → S.steps system.new ≡ S.steps system.old ++ steps) }
+    {
+        match NightPaths::open(system, targets, leaving) {
+            Err(fault) => Err(NetworkRefusal::Socket(fault)),
+            Ok(night) => match night.refused_route() {
+                None => Ok(night),
+                Some(refused) => Err(NetworkRefusal::Route(refused)),
+            },
+        }
+    }
+}
+
+fn refused_path(is_named: bool, paths: &[Path]) -> Option<Path>
+    ensures { result ≡ refused_path is_named paths.now }
+{
+    paths
+        .iter()
+        .find(|path| is_refused(is_named, path))
+        .copied()
+}
+
+fn is_refused(is_named: bool, path: &Path) -> bool
+    ensures { result ≡ is_some (refused_card path.now.state is_named) }
+{
+    path.state.refused_card(is_named).is_some()
+}
+
+fn card_told(source: &Option<Source>) -> CardName
+    ensures { result.bytes ≡ card_told source.now }
+{
+    match source {
+        Some(source) => source.card,
+        None => no_name(),
+    }
+}
+
+fn no_name() -> CardName
+    ensures { result.bytes ≡ codes "the card" }
+{
+    let mut name = CardName::new();
+    name.push_str(NO_NAME);
+    name
+}
