@@ -1,4 +1,4 @@
-ghost use Rattle.std.specs.Prelude.{◌≤◌, []};
+ghost use Rattle.std.specs.Prelude.{◌≤◌};
 
 use crate::jobs::identity;
 use crate::live_devices::Descriptors;
@@ -8,7 +8,7 @@ use crate::standard::Standard;
 use crate::system_night::SystemNight;
 use cmd_faults::RunFault;
 use cmd_words::Night;
-use live_machine::{NightKind, NightRun, play_night, run_night};
+use live_machine::{NightKind, play_night};
 use remarks::{Failure, JobFault, Refusal};
 use sacn_source::Identity;
 use std::fs::symlink_metadata;
@@ -33,7 +33,7 @@ pub struct MainWords<'a> {
     pub patience: u32,
 }
 
-/// A night that is to be played: its words, the text of its show once that was read, and who sends.
+/// A night that is to be played: its words, the text of its show, and who sends.
 #[derive(Clone, Copy)]
 pub struct Playbill<'w, 's> {
     pub night: &'w Night,
@@ -41,6 +41,9 @@ pub struct Playbill<'w, 's> {
     pub show: &'s [u8],
     pub source: Identity,
 }
+
+/// How a night ended, unless it did not begin.
+type RunEnd = Result<Result<(), Failure>, JobFault>;
 
 /// Plays by the clock what is typed.
 ///
@@ -55,49 +58,39 @@ pub fn play_live(rt: &HostRuntime, mut night: Night, words: LiveWords<'_>) -> Re
         night.name = Some(name);
     }
     let source = identity(&night)?;
-    let bill = Playbill {
-        night: &night,
-        words,
-        show: &[],
-        source,
-    };
-    Ok(run_night(&mut SystemNight { rt, bill })??)
+    let made = words.record_file.filter(|name| is_missing(rt, name));
+    match play_words(rt, &night, words, source) {
+        Ok(end) => Ok(end?),
+        Err(fault) => {
+            remove_unused_record(rt, made);
+            Err(fault)
+        }
+    }
 }
 
-impl NightRun for SystemNight<'_, '_> {
-    type End = Result<(), Failure>;
-
-    type Fault = JobFault;
-
-    ghost tells = { λ _. ⊥ };
-
-    ghost steps = { λ _. [] };
-
-    fn is_record_missing(&mut self) -> bool {
-        let Some(name) = self.bill.words.record_file else {
-            return false;
-        };
-        symlink_metadata(self.rt, name).is_err_and(|error| error.kind() == ErrorKind::NotFound)
+fn is_missing(rt: &HostRuntime, name: &str) -> bool {
+    match symlink_metadata(rt, name) {
+        Ok(_) => false,
+        Err(error) => error.kind() == ErrorKind::NotFound,
     }
+}
 
-    fn play(&mut self) -> Result<Result<(), Failure>, JobFault> {
-        let mut system = *self;
-        let words = system.bill.words;
-        let standard = Standard::open(system.rt)?;
-        let show = suitable_show(system.rt, system.bill.night)?;
-        system.bill.show = show.as_slice();
-        let mut network = None;
-        let descriptors = Descriptors {
-            standard,
-            network: &mut network,
-        };
-        let kind = NightKind::of(words.main, words.record_file, words.is_spare);
-        let end = play_night(&mut system, kind, descriptors)?;
-        end.answer(JobFault::Record(Refusal::main_is_over()))
-    }
-
-    fn remove_unused_record(&mut self, was_missing: bool) {
-        let made = self.bill.words.record_file.filter(|_| was_missing);
-        remove_unused_record(self.rt, made);
-    }
+fn play_words(rt: &HostRuntime, night: &Night, words: LiveWords<'_>, source: Identity) -> RunEnd {
+    let standard = Standard::open(rt)?;
+    let show = suitable_show(rt, night)?;
+    let mut network = None;
+    let descriptors = Descriptors {
+        standard,
+        network: &mut network,
+    };
+    let bill = Playbill {
+        night,
+        words,
+        show: show.as_slice(),
+        source,
+    };
+    let mut system = SystemNight { rt, bill };
+    let kind = NightKind::of(words.main, words.record_file, words.is_spare);
+    let end = play_night(&mut system, kind, descriptors)?;
+    end.answer(JobFault::Record(Refusal::main_is_over()))
 }

@@ -63,6 +63,11 @@ impl<'w> MainRecord<'w> {
         }
     }
 
+    // Whether its name still leads to the record, and that has all lines that were given.
+    fn is_there(&self, rt: &HostRuntime) -> bool {
+        are_lines_there(rt, self.words.file, &self.lines)
+    }
+
     /// The main, at a place of its night.
     pub fn night(&self, place: Place) -> MainNight<'w> {
         MainNight {
@@ -110,7 +115,7 @@ impl MainWatch for WatchedMain<'_, '_, '_> {
     }
 
     fn is_there(&mut self) -> bool {
-        are_lines_there(self.rt, self.main.words.file, &self.main.lines)
+        self.main.is_there(self.rt)
     }
 
     fn time_passed(&mut self) -> Result<Duration, LinkFault> {
@@ -118,10 +123,7 @@ impl MainWatch for WatchedMain<'_, '_, '_> {
     }
 
     fn wait(&mut self) -> Result<Came, LinkFault> {
-        let main = &mut self.main;
-        let came = self.booth.wait_led(TURN, &mut main.typed)?;
-        main.input_ended = input_has_ended(main.input_ended, came);
-        Ok(came)
+        wait_for_typed(self.booth, self.main)
     }
 
     fn keep(&mut self, line: &LineFront) {
@@ -145,4 +147,10 @@ impl MainWatch for WatchedMain<'_, '_, '_> {
     fn remind(&mut self) {
         self.booth.screen().tell(led_reminder_line().as_bytes());
     }
+}
+
+fn wait_for_typed(booth: &mut LiveBooth<'_>, main: &mut MainRecord<'_>) -> Result<Came, LinkFault> {
+    let came = booth.wait_led(TURN, &mut main.typed)?;
+    main.input_ended = input_has_ended(main.input_ended, came);
+    Ok(came)
 }
