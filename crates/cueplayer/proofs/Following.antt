@@ -7,7 +7,7 @@ use Rattle.cmd_live.specs.Following.{Follows}
 use Rattle.cmd_live.specs.declared.follow.Pause.{Pause}
 use Rattle.cmd_live.specs.declared.main_console.Led.{Led}
 use Rattle.cmd_live.specs.declared.night.Night.{Night}
-use Rattle.cueplayer.specs.Opening.{CanFollow}
+use Rattle.night_opening.specs.Opening.{CanFollow}
 
 pub follows_on : {F : Type 0} (stands_for : F → List Start → Type 0) (tells : Type 0)
     (pause : Pause) (old new : Night F) (given gives : List Led) (before after : List Send)

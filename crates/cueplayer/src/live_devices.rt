@@ -4,8 +4,8 @@ use crate::cards::open_network;
 use crate::device_failure::{of_device_fault, of_lock_fault, of_record};
 use crate::jobs::{NO_LOCK, link_of, run_end};
 use crate::live_booth::LiveBooth;
-use crate::live_job::{LiveWords, Playbill};
-use crate::opening::opening_of;
+use crate::live_job::Playbill;
+use crate::opening::clock_text;
 use crate::screen::{Replies, Screen, open_replies};
 use crate::standard::Standard;
 use crate::start_lines::StartLines;
@@ -13,7 +13,8 @@ use live_machine::{
     DeviceSystem, DevicesOf, NightInput, NightRole, OpenDevices, StartSystem, open_behind_record,
     open_devices, start_night,
 };
-use night_lines::{Place, Recording};
+use night_lines::Place;
+use night_opening::{RecordStart, begin_record, counted_pause, opening_of, recording_of};
 use night_record::NightOpening;
 use remarks::{Failure, JobFault};
 use std::cell::RefCell;
@@ -78,10 +79,8 @@ impl<'a> LiveDevices<'a> {
         standard: Standard<'a>,
     ) -> Result<Self, JobFault> {
         let (file, behind) = open_devices(&mut SystemDevices { rt, bill })?;
-        let opening = match &file {
-            Some(file) => opening_of(rt, bill, file.text())?,
-            None => NightOpening::none(),
-        };
+        let text = file.as_ref().map(RecordFile::text);
+        let opening = opening_of(bill, clock_text(rt), &text)?;
         Ok(LiveDevices::of(rt, standard, file, opening, behind))
     }
 
@@ -124,12 +123,9 @@ impl<'a> LiveDevices<'a> {
         }
     }
 
-    /// What stands in the record.
-    pub fn text(&self) -> &[u8] {
-        match &self.file {
-            Some(file) => file.text(),
-            None => &[],
-        }
+    /// What stands in the record, where there is one.
+    pub fn record_text(&self) -> Option<&[u8]> {
+        self.file.as_ref().map(RecordFile::text)
     }
 
     /// Starts the night, and its record, in the order of [`start_night`]: the devices of the night,
@@ -162,7 +158,8 @@ impl<'a> LiveDevices<'a> {
         bill: &Playbill<'_, '_>,
         place: Place,
     ) -> Result<(), Failure> {
-        let recorded = self.recording(bill.words, place);
+        let length = self.file.as_ref().map_or(0, RecordFile::length);
+        let recorded = recording_of(&bill.words, &self.opening.lines, length, place);
         let LiveDevices {
             network,
             screen,
@@ -176,18 +173,6 @@ impl<'a> LiveDevices<'a> {
             followed: None,
         };
         run_end(lines.tell(rt, screen), bill.show, None)
-    }
-
-    // Where the night is recorded, and from where it goes on there.
-    fn recording<'w>(&self, words: LiveWords<'w>, place: Place) -> Option<Recording<'w>> {
-        let record = self.file.as_ref()?;
-        let lines = &self.opening.lines;
-        Some(Recording {
-            file: words.record_file?,
-            resumes: words.resumes,
-            place: lines.goes_on().then_some(place),
-            is_cut: lines.has_cut_line(record.length()),
-        })
     }
 
     /// The night that has begun after this pause.
@@ -301,9 +286,10 @@ impl StartSystem for SystemStart<'_, '_, '_, '_> {
 
     // A night that begins does so now.
     fn look_at_pause(&mut self) -> Result<Pause, JobFault> {
-        match self.devices.file.as_ref().and_then(RecordFile::pause) {
-            Some(pause) if self.devices.opening.lines.goes_on() => Ok(pause),
-            _ => Ok(Pause {
+        let pause = self.devices.file.as_ref().and_then(RecordFile::pause);
+        match counted_pause(&self.devices.opening, pause) {
+            Some(pause) => Ok(pause),
+            None => Ok(Pause {
                 until: now(self.rt)?,
                 milliseconds: 0,
             }),
@@ -311,17 +297,52 @@ impl StartSystem for SystemStart<'_, '_, '_, '_> {
     }
 
     fn begin_record(&mut self) -> Result<(), JobFault> {
-        let devices = &mut *self.devices;
-        let (Some(file), Some(name)) = (devices.file.take(), self.bill.words.record_file) else {
+        let LiveDevices {
+            file,
+            record,
+            screen,
+            opening,
+            ..
+        } = &mut *self.devices;
+        let mut start = SystemRecord {
+            rt: self.rt,
+            name: self.bill.words.record_file,
+            file,
+            record,
+            screen,
+        };
+        begin_record(&mut start, opening)
+    }
+}
+
+// A record's file, where there is one, and what is written to it. It does not tell its steps.
+#[derive(Drop)]
+struct SystemRecord<'d, 'w> {
+    rt: &'d HostRuntime,
+    name: Option<&'w str>,
+    file: &'d mut Option<RecordFile>,
+    record: &'d mut Record,
+    screen: &'d mut Screen,
+}
+
+impl RecordStart for SystemRecord<'_, '_> {
+    type Fault = JobFault;
+
+    ghost tells = { λ _. ⊥ };
+
+    ghost steps = { λ _. [] };
+
+    fn keep_bytes(&mut self, length: usize) -> Result<(), JobFault> {
+        let (Some(file), Some(name)) = (self.file.take(), self.name) else {
             return Ok(());
         };
-        let kept = file.keep_lines(self.rt, devices.opening.lines.to);
-        devices.record = kept.map_err(|fault| of_record(name, fault))?;
-        if let Some(head) = &devices.opening.head {
-            let messages = devices.screen.messages();
-            devices.record.keep(head.as_slice(), messages);
-        }
+        let kept = file.keep_lines(self.rt, length);
+        *self.record = kept.map_err(|fault| of_record(name, fault))?;
         Ok(())
+    }
+
+    fn write(&mut self, lines: &[u8]) {
+        self.record.keep(lines, self.screen.messages());
     }
 }
 

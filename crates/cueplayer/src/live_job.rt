@@ -15,32 +15,7 @@ use std::fs::symlink_metadata;
 use std::io::ErrorKind;
 use system_devices::remove_unused_record;
 
-/// What the words say of a live night.
-#[derive(Clone, Copy)]
-pub struct LiveWords<'a> {
-    pub record_file: Option<&'a str>,
-    pub resumes: bool,
-    pub is_spare: bool,
-    pub start: Option<u32>,
-    pub main: Option<MainWords<'a>>,
-    pub ends_with_input: bool,
-}
-
-/// Whose night is followed: the name of its record, and how long it may be silent, in milliseconds.
-#[derive(Clone, Copy)]
-pub struct MainWords<'a> {
-    pub file: &'a str,
-    pub patience: u32,
-}
-
-/// A night that is to be played: its words, the text of its show, and who sends.
-#[derive(Clone, Copy)]
-pub struct Playbill<'w, 's> {
-    pub night: &'w Night,
-    pub words: LiveWords<'w>,
-    pub show: &'s [u8],
-    pub source: Identity,
-}
+pub use night_opening::{LiveWords, MainWords, Playbill};
 
 /// How a night ended, unless it did not begin.
 type RunEnd = Result<Result<(), Failure>, JobFault>;

@@ -1,5 +1,9 @@
+ghost use Rattle.std.specs.Prelude.{[]};
+
 use crate::device_failure::of_device_fault;
+use night_opening::{StandardStream, StandardStreams, ask_for_screen};
 use remarks::Failure;
+use std::io::ErrorKind;
 use std::os::fd::AsFd;
 use system_devices::{Messages, TypedInput, open_messages};
 
@@ -16,8 +20,7 @@ impl<'a> Standard<'a> {
     /// `Device` where standard output is closed, or standard input cannot be waited for; `Memory`
     /// if an allocation failed.
     pub fn open(rt: &'a HostRuntime) -> Result<Self, Failure> {
-        ask_for(&rt.stdout(), "standard output")?;
-        let is_told = ask_for(&rt.stderr(), "standard error").is_ok();
+        let is_told = ask_for_screen(&mut Descriptors { rt })?;
         let input = TypedInput::open(rt).map_err(of_device_fault)?;
         let messages = open_messages(rt, is_told).map_err(of_device_fault)?;
         Ok(Standard { input, messages })
@@ -31,14 +34,31 @@ impl<'a> Standard<'a> {
 ///
 /// `Device` where one is closed.
 pub fn ask_for_standard(rt: &HostRuntime) -> Result<(), Failure> {
-    ask_for(&rt.stdin(), "standard input")?;
-    ask_for(&rt.stdout(), "standard output")?;
-    ask_for(&rt.stderr(), "standard error")
+    night_opening::ask_for_standard(&mut Descriptors { rt })
 }
 
-// Whether what has this name is open.
-fn ask_for<F: AsFd>(file: &F, name: &str) -> Result<(), Failure> {
+// The descriptors of this process. They do not tell.
+#[derive(Drop)]
+struct Descriptors<'a> {
+    rt: &'a HostRuntime,
+}
+
+impl StandardStreams for Descriptors<'_> {
+    ghost tells = { λ _. ⊥ };
+
+    ghost steps = { λ _. [] };
+
+    fn ask(&mut self, stream: StandardStream) -> Result<(), ErrorKind> {
+        match stream {
+            StandardStream::Input => ask_for(&self.rt.stdin()),
+            StandardStream::Output => ask_for(&self.rt.stdout()),
+            StandardStream::Error => ask_for(&self.rt.stderr()),
+        }
+    }
+}
+
+fn ask_for<F: AsFd>(file: &F) -> Result<(), ErrorKind> {
     let copied = file.as_fd().try_clone_to_owned();
-    copied.map_err(|error| Failure::of_device(name, error.kind()))?;
+    copied.map_err(|error| error.kind())?;
     Ok(())
 }

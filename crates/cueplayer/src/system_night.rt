@@ -1,21 +1,21 @@
 ghost use Rattle.std.specs.Prelude.{[], OnOk, OnSome};
 ghost use Rattle.cmd_live.specs.Stands.{IsPlayable};
-ghost use Rattle.cueplayer.specs.Opening.{CanFollow, playable};
+ghost use Rattle.night_opening.specs.Opening.{CanFollow, playable};
 
 use crate::jobs::{night_end, run_end};
 use crate::link_watch::LinkTeller;
 use crate::live_booth::LiveBooth;
 use crate::live_devices::{Beginning, Descriptors, LiveDevices, NightDevices, now};
-use crate::live_job::{LiveWords, MainWords, Playbill};
+use crate::live_job::{MainWords, Playbill};
 use crate::main_record::{MainRecord, WatchedMain};
-use crate::opening::{new_night, open_night};
 use crate::own_record::OwnRecord;
 use crate::start_lines::StartLines;
 use cmd_live::{Backup, Night, Pause, Silent, Spare};
 use devices::Link;
 use fade::{Fader, StepFader};
 use live_machine::{FollowEnd, MainLines, NightRole, NightSystem};
-use night_lines::{Place, Recording, leading_line, over_line};
+use night_lines::{leading_line, over_line};
+use night_opening::{new_night, new_recording, open_night, place_of};
 use night_record::{Lead, NightOpening};
 use remarks::{Failure, JobFault, Refusal};
 use system_devices::RecordFile;
@@ -106,12 +106,17 @@ impl<'a> NightSystem for SystemNight<'a, '_> {
     }
 
     fn new_night(&mut self) -> Result<Night<StepFader>, JobFault> {
-        new_night(self.rt, &self.bill)
+        new_night(self.rt.alloc(), &self.bill)
     }
 
     fn open_night(&mut self, devices: &NightDevices<'a>) -> Result<Night<StepFader>, JobFault> {
         let devices = &devices.devices;
-        open_night(self.rt, &self.bill, &devices.opening, devices.text())
+        open_night(
+            self.rt.alloc(),
+            &self.bill,
+            &devices.opening,
+            &devices.record_text(),
+        )
     }
 
     fn begin(
@@ -160,7 +165,7 @@ impl<'a> NightSystem for SystemNight<'a, '_> {
             night: self.bill.night,
             show: self.bill.show,
             network: &network,
-            recorded: new_record(self.bill.words),
+            recorded: new_recording(&self.bill.words),
             followed: Some(main.night(place_of(night))),
         };
         let told = lines.tell(self.rt, booth.booth.screen());
@@ -279,23 +284,5 @@ fn follow_record(
         }
         Pause::Ended => Ok(()),
         Pause::Asked => Ok(()),
-    }
-}
-
-// Where a night of these words is recorded, if anywhere, that begins.
-fn new_record<'w>(words: LiveWords<'w>) -> Option<Recording<'w>> {
-    Some(Recording {
-        file: words.record_file?,
-        resumes: false,
-        place: None,
-        is_cut: false,
-    })
-}
-
-// Where a night is.
-fn place_of(night: &Night<StepFader>) -> Place {
-    Place {
-        moment: night.moment(),
-        cue: night.console.current(),
     }
 }

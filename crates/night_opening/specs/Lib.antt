@@ -1,2 +1,11 @@
 pub mod Faults
 pub mod Fits
+pub mod Heads
+pub mod LiveNames
+pub mod MemoryLook
+pub mod MemoryRecord
+pub mod Opening
+pub mod RecordStart
+pub mod Recordings
+pub mod Standard
+pub mod Texts

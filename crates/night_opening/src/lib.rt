@@ -1,9 +1,30 @@
-//! Whether a live night may open.
+//! Whether a live night may open, and how.
 //!
-//! [`check_targets`] refuses targets that do not suit the universes of its show.
+//! [`check_targets`] refuses targets that do not suit the universes of its show, and
+//! [`ask_for_screen`] asks for the streams that it tells to. [`live_name`] is the name by which it
+//! sends where none was given, [`head_of`] the head of its record, [`opening_of`] how it begins or
+//! goes on by what stands there, [`open_night`] the night that has begun, or gone on behind the
+//! lines of its record, and [`begin_record`] what its file keeps and gets.
 #![tactic(auto)]
 
 mod fit;
+mod head;
+pub mod memory;
+mod night_name;
+mod opening;
+mod playbill;
+mod record_start;
+mod recording;
 mod run_fault;
+mod standard;
+mod text;
 
 pub use fit::check_targets;
+pub use head::{ClockText, head_of};
+pub use night_name::{RecordLook, live_name};
+pub use opening::{new_night, open_night, opening_of};
+pub use playbill::{LiveWords, MainWords, Playbill};
+pub use record_start::{RecordStart, begin_record, counted_pause};
+pub use recording::{new_recording, place_of, recording_of};
+pub use standard::{StandardStream, StandardStreams, StreamStep, ask_for_screen, ask_for_standard};
+pub use text::{TextSource, file_text, first_text, show_text, suitable_show};

@@ -1,8 +1,8 @@
 use Rattle.std.proofs.Common.{[]}
-use Rattle.cueplayer.proofs.opening.new_night.Goals as goal
+use Rattle.night_opening.proofs.opening.new_night.Goals as goal
 
-pub returns-in-Ok : goal.returns-in-Ok
-returns-in-Ok g c =
+pub returns-in-Ok-clause-follows : goal.returns-in-Ok-clause-follows
+returns-in-Ok-clause-follows g c =
     let stands = c.in-Ok.ensures.opened.stands in (
       c.in-Ok.ensures.opened.ready,
       (
