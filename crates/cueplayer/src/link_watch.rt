@@ -1,7 +1,6 @@
-use crate::network_lines::night_sources;
 use crate::screen::Screen;
 use link_notices::{LinkNotices, LinkWatch, NetworkLook};
-use night_lines::{NoticeNetwork, tell_notices};
+use night_lines::{NoticeNetwork, night_sources, tell_notices};
 use std::cell::RefCell;
 use std::time::Instant;
 use system_devices::{Network, SharedNetwork, SystemClock};
@@ -45,7 +44,7 @@ impl<'a> LinkTeller<'a> {
             return;
         };
         let routed = network.route_notices(rt, notices);
-        let sources = night_sources(&network);
+        let sources = night_sources(network.sources());
         let told = NoticeNetwork {
             sources: sources.as_slice(),
             paths: network.paths(),

@@ -7,14 +7,12 @@ use cmd_live::{Booth, Heard};
 use devices::{Link, LinkFault};
 use live_input::Reason;
 use live_machine::{BoothMachine, BoothNote, Came, Hearing, NightBooth, NightClock, NightInput};
-use night_lines::{input_ended_line, typed_end_line};
+use night_lines::{booth_note_line, keys_ignored_line};
+use night_opening::led_refusal_line;
 use night_record::{NightLines, line_moment, where_moment};
 use remarks::refused_line;
 use std::time::Instant;
 use system_devices::{Record, SystemClock, TypedInput};
-
-// Why a line that is typed while the night follows a main is refused.
-const MAIN_LEADS: &str = "the main leads; take ends the following";
 
 /// Where a night is run from on this machine: the clock, standard input, the record and the screen.
 /// It does not tell what it did.
@@ -83,8 +81,7 @@ impl<'a> LiveBooth<'a> {
 
     /// Tells that a line which was typed while the night follows a main is not carried out.
     pub fn refuse_led(&mut self, text: &[u8]) {
-        self.screen()
-            .tell(refused_line(text, MAIN_LEADS).as_slice());
+        self.screen().tell(led_refusal_line(text).as_slice());
     }
 
     /// The night goes on by itself from now on, with this that was typed and is not answered yet.
@@ -136,11 +133,7 @@ impl BoothMachine for LiveMachine<'_> {
     }
 
     fn tell(&mut self, note: BoothNote) {
-        let line = match note {
-            BoothNote::InputEnded => input_ended_line(),
-            BoothNote::TypedEnd => typed_end_line(),
-        };
-        self.screen.tell(line.as_bytes());
+        self.screen.tell(booth_note_line(note).as_bytes());
     }
 
     fn keep(&mut self, line: &[u8]) {
@@ -211,6 +204,6 @@ impl Booth for LiveBooth<'_> {
     }
 
     fn ignore_keys(&mut self) {
-        self.screen().tell(b"keys ignored\n");
+        self.screen().tell(keys_ignored_line().as_bytes());
     }
 }

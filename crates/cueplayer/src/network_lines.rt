@@ -1,42 +1,25 @@
+ghost use Rattle.std.specs.Prelude.{[]};
+
 use network_tables::{Cards, Route};
-use night_lines::{NightSource, NightSources, are_cards_told, first_host};
-use system_devices::{Network, read_cards, route_to};
+use night_lines::NetworkLookup;
+use system_devices::{read_cards, route_to};
 
-/// The addresses that packets come from.
-pub fn night_sources(network: &Network) -> NightSources {
-    let mut sources = NightSources::new();
-    for source in network.sources() {
-        let _ = sources.try_push(NightSource {
-            address: source.address,
-            card: source.card,
-            route: None,
-        });
+/// The routes and cards of this machine. It does not tell.
+#[derive(Clone, Copy)]
+pub struct SystemLookup<'a> {
+    pub rt: &'a HostRuntime,
+}
+
+impl NetworkLookup for SystemLookup<'_> {
+    ghost tells = { λ _. ⊥ };
+
+    ghost steps = { λ _. [] };
+
+    fn route_to(&mut self, host: [u8; 4]) -> Option<Route> {
+        route_to(self.rt, host)
     }
-    sources
-}
 
-/// The same, each with the route to the first host that packets go to from there.
-pub fn routed_sources(rt: &HostRuntime, network: &Network) -> NightSources {
-    let mut sources = NightSources::new();
-    for (place, source) in network.sources().iter().enumerate() {
-        let _ = sources.try_push(NightSource {
-            address: source.address,
-            card: source.card,
-            route: first_route(rt, network, place),
-        });
-    }
-    sources
-}
-
-fn first_route(rt: &HostRuntime, network: &Network, place: usize) -> Option<Route> {
-    route_to(rt, first_host(network.paths(), place)?)
-}
-
-/// The cards of this machine, where it is told which others there are.
-pub fn other_cards(rt: &HostRuntime, network: &Network, is_named: bool) -> Cards {
-    if are_cards_told(network.paths(), is_named) {
-        read_cards(rt)
-    } else {
-        Cards::new()
+    fn read_cards(&mut self) -> Cards {
+        read_cards(self.rt)
     }
 }

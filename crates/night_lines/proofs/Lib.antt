@@ -1,3 +1,4 @@
 mod Rows
 mod RowsStart
 mod Told
+pub mod Looking

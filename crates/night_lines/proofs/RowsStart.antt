@@ -1,12 +1,10 @@
 -- What a night tells at its start, evaluated: by the addresses that its packets go to.
 use Rattle.std.specs.Prelude.{◌≡◌, List, [], ◌∷◌, codes, false, true, refl, Some, None}
-use Rattle.std.specs.Prelude.{option_map}
 use Rattle.std.specs.Fmt.{digits}
-use Rattle.std.specs.List.{find}
 use Rattle.packet_paths.specs.Hosts.{new_path}
 use Rattle.packet_paths.specs.declared.path.Path.{Path}
-use Rattle.night_lines.specs.StartNetworks.{are_cards_told, is_from, no_route_told}
-use Rattle.night_lines.specs.Starts.{end_lines}
+use Rattle.night_lines.specs.StartNetworks.{are_cards_told, first_host, no_route_told}
+use Rattle.night_lines.specs.Starts.{closing_lines}
 
 -- a node, another one that is not reached yet, and the group of universe 1
 abbrev paths : List Path
@@ -17,8 +15,7 @@ cards : (are_cards_told paths false ≡ true) × (are_cards_told paths true ≡ 
     × (are_cards_told (new_path (10 ∷ 0 ∷ 0 ∷ 7 ∷ []) (Some 0) true ∷ []) false ≡ false)
 cards = (refl, refl, refl)
 
-hosts : (option_map (λ path. path.host) (find (is_from 1) paths) ≡ Some (239 ∷ 255 ∷ 0 ∷ 1 ∷ []))
-    × (option_map (λ path. path.host) (find (is_from 2) paths) ≡ None)
+hosts : (first_host paths 1 ≡ Some (239 ∷ 255 ∷ 0 ∷ 1 ∷ [])) × (first_host paths 2 ≡ None)
 hosts = (refl, refl)
 
 routes : (no_route_told (new_path (10 ∷ 0 ∷ 0 ∷ 7 ∷ []) (Some 0) true) ≡ None)
@@ -27,6 +24,6 @@ routes : (no_route_told (new_path (10 ∷ 0 ∷ 0 ∷ 7 ∷ []) (Some 0) true) �
 unfolding digits
 routes = (refl, refl)
 
-ends : end_lines None false ≡ codes
+ends : closing_lines None false ≡ codes
     "end ends the night, leave leaves the light to others; control-C does nothing\n" ∷ []
 ends = refl

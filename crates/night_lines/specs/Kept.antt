@@ -3,5 +3,5 @@ use Rattle.std.specs.Prelude.{ℕ, List}
 use Rattle.night_lines.specs.declared.memory.MemoryLine.{MemoryLine}
 
 -- one line
-abbrev pub line_of : MemoryLine → List ℕ
-line_of kept = kept.bytes.items
+abbrev pub kept_line : MemoryLine → List ℕ
+kept_line kept = kept.bytes.items

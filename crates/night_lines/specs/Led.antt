@@ -22,6 +22,10 @@ abbrev pub led_help_line : List ℕ
 led_help_line = codes "take: from now on this console leads; "
     ++ codes "where: the current cue, the next one, and what masters are at\n"
 
+-- why what is typed is not carried out
+abbrev pub led_reason : List ℕ
+led_reason = codes "the main leads; take ends the following"
+
 -- an end of the input that was typed ends nothing
 abbrev pub led_reminder_line : List ℕ
-led_reminder_line = codes "the main leads; take ends the following\n"
+led_reminder_line = led_reason ++ codes "\n"

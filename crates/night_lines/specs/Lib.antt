@@ -12,3 +12,5 @@ pub mod NoticeLines
 pub mod StartNetworks
 pub mod Starts
 pub mod Kept
+pub mod BoothLines
+pub mod Lookups

@@ -9,38 +9,38 @@ use Rattle.link_notices.specs.declared.notice.LinkNotice.TheVariants as notice
 use Rattle.link_notices.specs.declared.path.CardAddress.{CardAddress}
 use Rattle.packet_paths.specs.declared.path.Path.{Path}
 use Rattle.night_lines.specs.Notices.{path_notice_line, source_notice_line}
-use Rattle.night_lines.specs.Sources.{card_address}
+use Rattle.night_lines.specs.Sources.{origin_of}
 use Rattle.night_lines.specs.declared.night_source.NightSource.{NightSource}
 use Rattle.night_lines.specs.declared.notices.NoticeNetwork.{NoticeNetwork}
 use Rattle.packet_paths.specs.declared.routed_notices.RoutedNotice.{RoutedNotice}
 use Rattle.night_lines.specs.declared.path_notices.Way.{Way}
 
 -- the address at a place, and its card
-abbrev pub source_of : List NightSource → Option ℕ → Option CardAddress
-source_of sources place =
-    option_map card_address (option_and_then (slice_get sources) place)
+abbrev pub origin_at : List NightSource → Option ℕ → Option CardAddress
+origin_at sources place =
+    option_map origin_of (option_and_then (slice_get sources) place)
 
 -- the way along a path
 abbrev pub way_of : List NightSource → Path → Way
 way_of sources path = record {
   host = path.host;
   state = path.state;
-  source = source_of sources path.source;
+  source = origin_at sources path.source;
   neighbor = path.neighbor;
 }
 
 -- the line of a notice, by what stands at its place, and by the route to its host
-abbrev pub line_of : ℕ → NoticeNetwork → Option Route → LinkNotice → Option (List ℕ)
-line_of moment network route (notice.Source place news) = option_map
-    (λ source. source_notice_line moment (card_address source) news)
+abbrev pub line_of_notice : ℕ → NoticeNetwork → Option Route → LinkNotice → Option (List ℕ)
+line_of_notice moment network route (notice.Source place news) = option_map
+    (λ source. source_notice_line moment (origin_of source) news)
     (slice_get network.sources.now place)
-line_of moment network route (notice.Path place news) = option_map
+line_of_notice moment network route (notice.Path place news) = option_map
     (λ path. path_notice_line moment (way_of network.sources.now path) news
     (option_map route_seen route))
     (slice_get network.paths.now place)
 
 abbrev pub notice_line : ℕ → NoticeNetwork → RoutedNotice → Option (List ℕ)
-notice_line moment network routed = line_of moment network routed.route routed.notice
+notice_line moment network routed = line_of_notice moment network routed.route routed.notice
 
-abbrev pub line_seen : ArrayString 156 → List ℕ
-line_seen line = line.bytes
+abbrev pub notice_seen : ArrayString 156 → List ℕ
+notice_seen line = line.bytes

@@ -24,15 +24,15 @@ abbrev pub more_text : OtherCard → List ℕ
 more_text other = codes ", " ++ card_text other.name.bytes other.address
 
 -- all of them, and how to send by the first
-abbrev pub line_of : OtherCard → List OtherCard → List ℕ
-line_of first rest =
+abbrev pub line_of_others : OtherCard → List OtherCard → List ℕ
+line_of_others first rest =
     codes "other cards: " ++ card_text first.name.bytes first.address
     ++ flat_map more_text rest ++ codes "; --interface " ++ first.name.bytes
     ++ codes " sends by it\n"
 
 abbrev pub line_of_all : List OtherCard → Option (List ℕ)
 line_of_all [] = None
-line_of_all (first ∷ rest) = Some (line_of first rest)
+line_of_all (first ∷ rest) = Some (line_of_others first rest)
 
 -- the line of the cards that packets could come from and do not, where there are any
 abbrev pub other_cards_line : List (List ℕ) → List Card → Option (List ℕ)

@@ -1,14 +1,14 @@
 -- What is told at the start of a night of how its packets leave this machine.
 use Rattle.std.specs.Prelude.{ℕ, Bool, false, ◌&&◌, not, nat_eq, if◌then◌else◌}
 use Rattle.std.specs.Prelude.{List, [], ◌++◌, filter_map, map, Option, Some, None, option_map}
-use Rattle.std.specs.List.{list_any}
+use Rattle.std.specs.List.{find, list_any}
 use Rattle.std.specs.Option.{option_to_list}
 use Rattle.network_tables.specs.Routes.{route_seen}
 use Rattle.packet_paths.specs.Hosts.{is_multicast, is_nowhere}
 use Rattle.packet_paths.specs.declared.path.Path.{Path}
 use Rattle.night_lines.specs.OtherCards.{other_cards_line}
 use Rattle.night_lines.specs.Routes.{no_route_line, origin_line}
-use Rattle.night_lines.specs.Sources.{card_address}
+use Rattle.night_lines.specs.Sources.{origin_of}
 use Rattle.night_lines.specs.declared.night_source.NightSource.{NightSource}
 use Rattle.night_lines.specs.declared.start_network.StartNetwork.{StartNetwork}
 
@@ -17,13 +17,17 @@ abbrev pub is_place : ℕ → Option ℕ → Bool
 is_place place None = false
 is_place place (Some source) = nat_eq source place
 
-abbrev pub is_from : ℕ → Path → Bool
-is_from place path = is_place place path.source
+abbrev pub leaves_from : ℕ → Path → Bool
+leaves_from place path = is_place place path.source
+
+-- the first host that packets go to from the source at a place
+abbrev pub first_host : List Path → ℕ → Option (List ℕ)
+first_host paths place = option_map (λ path. path.host) (find (leaves_from place) paths)
 
 -- a source, and its route where no card was named
-abbrev pub source_line : Bool → NightSource → List ℕ
-source_line is_named source =
-    origin_line (card_address source)
+abbrev pub origin_told : Bool → NightSource → List ℕ
+origin_told is_named source =
+    origin_line (origin_of source)
     (if is_named then None else option_map route_seen source.route)
 
 -- no card was named, and packets go to a multicast group
@@ -46,5 +50,5 @@ no_route_told path = if is_nowhere path.state then Some (no_route_line path.host
 -- each source, the other cards, and each host that no route leads to, in this order
 abbrev pub network_lines : StartNetwork → List (List ℕ)
 network_lines network =
-    map (source_line network.is_named) network.sources.now.items
+    map (origin_told network.is_named) network.sources.now.items
     ++ card_lines network ++ filter_map no_route_told network.paths.now

@@ -36,13 +36,13 @@ record_told (Some recording) = record_line recording
 record_told None = no_record_line
 
 -- the main that a night follows, and how the following ends; where it follows none, what ends it
-abbrev pub end_lines : Option MainNight → Bool → List (List ℕ)
-end_lines (Some main) is_interruptible = main_line main ∷ take_line ∷ []
-end_lines None is_interruptible = ending_line is_interruptible ∷ []
+abbrev pub closing_lines : Option MainNight → Bool → List (List ℕ)
+closing_lines (Some main) is_interruptible = main_line main ∷ take_line ∷ []
+closing_lines None is_interruptible = ending_line is_interruptible ∷ []
 
 -- WHAT IS TOLD AT A NIGHT'S START: what the show has; what is sent, and where; how packets leave
 -- this machine; where the night is recorded; and whom it follows, or what ends it
 abbrev pub start_lines : NightStart → List (List ℕ)
 start_lines start =
     show_lines start.show ++ sends_lines start.sends ++ network_lines start.network
-    ++ record_told start.recording ∷ end_lines start.main start.is_interruptible
+    ++ record_told start.recording ∷ closing_lines start.main start.is_interruptible

@@ -1,6 +1,6 @@
 ghost use Rattle.std.specs.Prelude.{◌≡◌, ◌≤◌, length};
 ghost use Rattle.night_lines.specs.Records.{main_line, take_line};
-ghost use Rattle.night_lines.specs.Led.{leading_line, led_help_line, led_reminder_line};
+ghost use Rattle.night_lines.specs.Led.{leading_line, led_help_line, led_reason, led_reminder_line};
 ghost use Rattle.night_lines.specs.Led.{missing_line, over_line};
 
 use crate::StartLine;
@@ -100,4 +100,11 @@ pub fn led_reminder_line() -> &'static str
     ensures { result.now ≡ led_reminder_line }
 {
     "the main leads; take ends the following\n"
+}
+
+/// Why a line that is typed while a night follows is not carried out.
+pub fn led_reason() -> &'static str
+    ensures { result.now ≡ led_reason }
+{
+    "the main leads; take ends the following"
 }

@@ -1,15 +1,18 @@
 //! What an operator is told at the start of a night, and about its network.
 //!
 //! Each line is made from plain data, and has room in its text. Which lines are told at the start,
-//! and in which order, is decided here too: they are told to a [`LineTeller`]. Nothing here opens or
-//! looks.
+//! and in which order, is decided here too: they are told to a [`LineTeller`]. Which routes and
+//! cards are looked up for them is asked of a [`NetworkLookup`]. Nothing here opens or looks itself.
 #![tactic(auto)]
 
+mod booth_lines;
 mod cid;
 mod clock;
 mod contents;
 mod ending;
 mod follow;
+mod found_network;
+mod lookup;
 pub mod memory;
 mod night_source;
 mod notices;
@@ -26,13 +29,16 @@ mod target_lines;
 mod teller;
 
 use arrayvec::ArrayString;
+pub use booth_lines::{booth_note_line, keys_ignored_line};
 pub use clock::{ClockText, clock_text};
 pub use contents::{ContentsLine, contents_line};
-pub use ending::{ending_line, input_ended_line, typed_end_line};
+pub use ending::ending_line;
 pub use follow::{
-    FollowingLine, MainNight, leading_line, led_help_line, led_reminder_line, main_line,
-    missing_line, over_line, take_line,
+    FollowingLine, MainNight, leading_line, led_help_line, led_reason, led_reminder_line,
+    main_line, missing_line, over_line, take_line,
 };
+pub use found_network::{FoundNetwork, find_network, night_sources};
+pub use lookup::{LookupStep, NetworkLookup};
 pub use night_source::{NightSource, NightSources};
 pub use notices::{NoticeNetwork, tell_notices};
 pub use other_cards::{OtherCardsLine, other_cards_line};

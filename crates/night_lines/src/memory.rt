@@ -1,9 +1,12 @@
-//! A teller over memory, which keeps its lines.
+//! A teller over memory, which keeps its lines, and routes and cards over memory.
 
 ghost use Rattle.std.specs.Prelude.{◌≡◌, false, [], ◌∷◌, ◌++◌, map, OnOk};
-ghost use Rattle.night_lines.specs.Kept.{line_of};
+ghost use Rattle.night_lines.specs.Kept.{kept_line};
+
+mod lookup;
 
 use crate::teller::LineTeller;
+pub use lookup::{LookupAnswers, MemoryLookup};
 use std::alloc::{AllocError, Global};
 
 /// A line that a teller over memory was told.
@@ -38,7 +41,7 @@ impl MemoryTeller {
 
 fn keep(alloc: Global, lines: &mut Vec<MemoryLine>, line: &[u8]) -> Result<(), AllocError>
     ensures { OnOk result
-        (map line_of lines.new.items ≡ map line_of lines.old.items ++ line.now ∷ []) }
+        (map kept_line lines.new.items ≡ map kept_line lines.old.items ++ line.now ∷ []) }
 {
     let bytes = Vec::from_slice(alloc, line)?;
     lines.push(MemoryLine { bytes })?;
@@ -48,13 +51,13 @@ fn keep(alloc: Global, lines: &mut Vec<MemoryLine>, line: &[u8]) -> Result<(), A
 impl LineTeller for MemoryTeller {
     ghost tells = { λ m. m.full ≡ false };
 
-    ghost lines = { λ m. map line_of m.lines.items };
+    ghost lines = { λ m. map kept_line m.lines.items };
 
     fn tell(&mut self, line: &[u8])
         ensures told { self.new.full ≡ false → self.old.full ≡ false }
         ensures line { self.new.full ≡ false
-            → map line_of self.new.lines.items
-            ≡ map line_of self.old.lines.items ++ line.now ∷ [] }
+            → map kept_line self.new.lines.items
+            ≡ map kept_line self.old.lines.items ++ line.now ∷ [] }
     {
         if keep(self.alloc, &mut self.lines, line).is_err() {
             self.full = true;

@@ -1,5 +1,5 @@
 ghost use Rattle.std.specs.Prelude.{◌≡◌};
-ghost use Rattle.night_lines.specs.Sources.{card_address};
+ghost use Rattle.night_lines.specs.Sources.{origin_of};
 
 use arrayvec::ArrayVec;
 use link_notices::{CardAddress, MOST_SOURCES};
@@ -18,8 +18,8 @@ pub struct NightSource {
 pub type NightSources = ArrayVec<NightSource, MOST_SOURCES>;
 
 impl NightSource {
-    pub(crate) fn card_address(&self) -> CardAddress
-        ensures { result ≡ card_address self.now }
+    pub(crate) fn origin(&self) -> CardAddress
+        ensures { result ≡ origin_of self.now }
     {
         CardAddress {
             address: self.address,

@@ -23,16 +23,16 @@ impl NoticeNetwork<'_> {
         Way {
             host: path.host,
             state: path.state,
-            source: self.source_of(path.source),
+            source: self.origin_at(path.source),
             neighbor: path.neighbor,
         }
     }
 
-    fn source_of(&self, place: Option<usize>) -> Option<CardAddress>
-        ensures { result ≡ spec.source_of self.now.sources.now place }
+    fn origin_at(&self, place: Option<usize>) -> Option<CardAddress>
+        ensures { result ≡ spec.origin_at self.now.sources.now place }
     {
         let source = self.sources.get(place?)?;
-        Some(source.card_address())
+        Some(source.origin())
     }
 }
 
@@ -60,13 +60,13 @@ fn notice_line(
     routed: &RoutedNotice,
     network: &NoticeNetwork<'_>,
 ) -> Option<NoticeLine>
-    ensures { option_map spec.line_seen result
+    ensures { option_map spec.notice_seen result
         ≡ spec.notice_line moment network.now routed.now }
 {
     match routed.notice {
         LinkNotice::Source { place, notice } => {
             let source = network.sources.get(place)?;
-            Some(source_notice_line(moment, &source.card_address(), notice))
+            Some(source_notice_line(moment, &source.origin(), notice))
         }
         LinkNotice::Path { place, notice } => {
             let path = network.paths.get(place)?;

@@ -23,7 +23,7 @@ pub fn other_cards_line(cards: &Cards, sources: &[[u8; 4]]) -> Option<OtherCards
     let others = others(cards, sources);
     match others.as_slice() {
         [] => None,
-        [first, rest @ ..] => Some(line_of(first, rest)),
+        [first, rest @ ..] => Some(line_of_others(first, rest)),
     }
 }
 
@@ -53,9 +53,9 @@ fn other_card(card: &Card, sources: &[[u8; 4]]) -> Option<OtherCard>
     }
 }
 
-fn line_of(first: &OtherCard, rest: &[OtherCard]) -> OtherCardsLine
+fn line_of_others(first: &OtherCard, rest: &[OtherCard]) -> OtherCardsLine
     requires { length rest.now ≤ 63 }
-    ensures { result.bytes ≡ spec.line_of first.now rest.now }
+    ensures { result.bytes ≡ spec.line_of_others first.now rest.now }
 {
     let mut line = OtherCardsLine::new();
     line.push_str("other cards: ");

@@ -129,7 +129,7 @@ fn tell_end<T: LineTeller>(teller: &mut T, main: &Option<MainNight<'_>>, is_inte
     requires { IfSome main.now (λ one. length one.file.now ≤ 256) }
     ensures told { T.tells teller.new → T.tells teller.old }
     ensures lines { T.tells teller.new → T.lines teller.new
-        ≡ T.lines teller.old ++ spec.end_lines main.now is_interruptible }
+        ≡ T.lines teller.old ++ spec.closing_lines main.now is_interruptible }
 {
     match main {
         Some(main) => {

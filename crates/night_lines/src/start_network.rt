@@ -1,5 +1,5 @@
-ghost use Rattle.std.specs.Prelude.{◌≡◌, ◌++◌, filter_map, map, option_map};
-ghost use Rattle.std.specs.List.{find, list_any};
+ghost use Rattle.std.specs.Prelude.{◌≡◌, ◌++◌, filter_map, map};
+ghost use Rattle.std.specs.List.{list_any};
 ghost use Rattle.std.specs.Option.{option_to_list};
 ghost use Rattle.packet_paths.specs.Hosts.{is_multicast};
 ghost use Rattle.night_lines.specs.StartNetworks as spec;
@@ -28,18 +28,18 @@ pub struct StartNetwork<'a> {
 
 /// The host whose route is told of the source at a place: the first that packets go to from there.
 pub fn first_host(paths: &[Path], place: usize) -> Option<[u8; 4]>
-    ensures { result ≡ option_map (λ path. path.host) (find (spec.is_from place) paths.now) }
+    ensures { result ≡ spec.first_host paths.now place }
 {
     for path in paths {
-        if is_from(path, place) {
+        if leaves_from(path, place) {
             return Some(path.host);
         }
     }
     None
 }
 
-fn is_from(path: &Path, place: usize) -> bool
-    ensures { result ≡ spec.is_from place path.now }
+fn leaves_from(path: &Path, place: usize) -> bool
+    ensures { result ≡ spec.leaves_from place path.now }
 {
     match path.source {
         Some(source) => source == place,
@@ -75,20 +75,20 @@ pub(crate) fn tell_network<T: LineTeller>(teller: &mut T, network: &StartNetwork
 fn tell_sources<T: LineTeller>(teller: &mut T, sources: &[NightSource], is_named: bool)
     ensures told { T.tells teller.new → T.tells teller.old }
     ensures lines { T.tells teller.new
-        → T.lines teller.new ≡ T.lines teller.old ++ map (spec.source_line is_named) sources.now }
+        → T.lines teller.new ≡ T.lines teller.old ++ map (spec.origin_told is_named) sources.now }
 {
     for source in sources {
-        teller.tell(source_line(source, is_named).as_str().as_bytes());
+        teller.tell(origin_told(source, is_named).as_str().as_bytes());
     }
 }
 
-fn source_line(source: &NightSource, is_named: bool) -> OriginLine
-    ensures { result.bytes ≡ spec.source_line is_named source.now }
+fn origin_told(source: &NightSource, is_named: bool) -> OriginLine
+    ensures { result.bytes ≡ spec.origin_told is_named source.now }
 {
     if is_named {
-        origin_line(&source.card_address(), None)
+        origin_line(&source.origin(), None)
     } else {
-        origin_line(&source.card_address(), source.route)
+        origin_line(&source.origin(), source.route)
     }
 }
 

@@ -1,9 +1,11 @@
 pub mod Faults
 pub mod Fits
 pub mod Heads
+pub mod Interrupts
 pub mod LiveNames
 pub mod MemoryLook
 pub mod MemoryRecord
+pub mod NightStarts
 pub mod Opening
 pub mod RecordStart
 pub mod Recordings

@@ -1,16 +1,20 @@
-//! Whether a live night may open, and how.
+//! Whether a live night may open, how, and what it tells at its start.
 //!
 //! [`check_targets`] refuses targets that do not suit the universes of its show, and
 //! [`ask_for_screen`] asks for the streams that it tells to. [`live_name`] is the name by which it
 //! sends where none was given, [`head_of`] the head of its record, [`opening_of`] how it begins or
 //! goes on by what stands there, [`open_night`] the night that has begun, or gone on behind the
-//! lines of its record, and [`begin_record`] what its file keeps and gets.
+//! lines of its record, and [`begin_record`] what its file keeps and gets. [`tell_night_start`]
+//! tells how it begins.
 #![tactic(auto)]
 
 mod fit;
 mod head;
+mod interrupts;
+mod led_line;
 pub mod memory;
 mod night_name;
+mod night_start;
 mod opening;
 mod playbill;
 mod record_start;
@@ -21,7 +25,10 @@ mod text;
 
 pub use fit::check_targets;
 pub use head::{ClockText, head_of};
+pub use interrupts::is_interruptible;
+pub use led_line::led_refusal_line;
 pub use night_name::{RecordLook, live_name};
+pub use night_start::{NightAtStart, tell_night_start};
 pub use opening::{new_night, open_night, opening_of};
 pub use playbill::{LiveWords, MainWords, Playbill};
 pub use record_start::{RecordStart, begin_record, counted_pause};

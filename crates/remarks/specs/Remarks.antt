@@ -32,6 +32,10 @@ abbrev pub of_seeming : List ℕ → List ℕ
 of_seeming what = remark_of (codes "the show has no cue, and its file seems to be "
     ∷ what ∷ codes ": check the file's name and how it was saved" ∷ [])
 
+-- the line of that
+abbrev pub seeming_line : List ℕ → List ℕ
+seeming_line what = of_seeming what ++ codes "\n"
+
 -- a line that was typed is not carried out, and why: of each at most 200 bytes are shown
 abbrev pub refused_line : List ℕ → List ℕ → List ℕ
 refused_line text why =

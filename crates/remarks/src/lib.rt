@@ -29,7 +29,9 @@ pub use listening::tell_listening;
 pub use misfit::of_misfit;
 pub use name::{NameText, of_name};
 pub use refusal::{Refusal, RefusalLine};
-pub use remark::{Remark, join, of_device, of_seeming, plain, push_shown, refused_line};
+pub use remark::{
+    Remark, join, of_device, of_seeming, plain, push_shown, refused_line, seeming_line,
+};
 pub use target::of_target;
 pub use text_line::{of_line, of_setup, of_show};
 pub use weight::{of_weight, strict_end};

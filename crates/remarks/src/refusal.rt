@@ -35,38 +35,34 @@ impl Refusal {
     pub fn no_record() -> Refusal
         ensures { Rejects no_record (remark_of (record_rule ∷ [])) result }
     {
-        Refusal {
-            line: line_of("no record of live", "", ""),
-            remark: plain(
-                "a night goes on in a file that live began: its first line says whose it is",
-            ),
-        }
+        by_rule(
+            line_of("no record of live", "", ""),
+            "a night goes on in a file that live began: its first line says whose it is",
+        )
     }
 
     /// What was to be followed has no head, or is neither a file nor a FIFO.
     pub fn no_main() -> Refusal
         ensures { Rejects no_record (remark_of (main_rule ∷ [])) result }
     {
-        Refusal {
-            line: line_of("no record of live", "", ""),
-            remark: plain(
-                "a main's record is one that live keeps: its first line says whose it is",
-            ),
-        }
+        by_rule(
+            line_of("no record of live", "", ""),
+            "a main's record is one that live keeps: its first line says whose it is",
+        )
     }
 
     /// The main that was to be followed sends under the CID of this night.
     pub fn shared_cid() -> Refusal
         ensures { Rejects shared_cid (remark_of (cid_rule ∷ [])) result }
     {
-        Refusal {
-            line: line_of(
+        by_rule(
+            line_of(
                 "the same cid as --cid: a backup has a CID of its own",
                 "",
                 "",
             ),
-            remark: plain("uuidgen prints one"),
-        }
+            "uuidgen prints one",
+        )
     }
 
     /// The main's record has come to the end of its night.
@@ -74,10 +70,10 @@ impl Refusal {
         ensures { Rejects over (remark_of (codes "a backup follows a night that is on" ∷ []))
             result }
     {
-        Refusal {
-            line: line_of("the night has ended", "", ""),
-            remark: plain("a backup follows a night that is on"),
-        }
+        by_rule(
+            line_of("the night has ended", "", ""),
+            "a backup follows a night that is on",
+        )
     }
 
     /// Why a night does not go on in its own record.
@@ -106,10 +102,10 @@ impl Refusal {
     pub fn main_line(number: u64) -> Refusal
         ensures { Rejects (unlike_line number) (remark_of (main_line_rule ∷ [])) result }
     {
-        Refusal {
-            line: unlike_line(number),
-            remark: plain("a night follows where each line is as live wrote it"),
-        }
+        by_rule(
+            unlike_line(number),
+            "a night follows where each line is as live wrote it",
+        )
     }
 
     /// A record with this head is of another night: in this they differ first.
@@ -148,12 +144,10 @@ impl Refusal {
     pub fn spare_line(number: u64) -> Refusal
         ensures { Rejects (unlike_line number) (remark_of (spare_line_rule ∷ [])) result }
     {
-        Refusal {
-            line: unlike_line(number),
-            remark: plain(
-                "a spare goes on where each line is as live wrote it, and none is missing",
-            ),
-        }
+        by_rule(
+            unlike_line(number),
+            "a spare goes on where each line is as live wrote it, and none is missing",
+        )
     }
 
     /// The night of the record came to its end.
@@ -161,10 +155,10 @@ impl Refusal {
         ensures { Rejects over (remark_of (codes "give another FILE for the next night" ∷ []))
             result }
     {
-        Refusal {
-            line: line_of("the night has ended", "", ""),
-            remark: plain("give another FILE for the next night"),
-        }
+        by_rule(
+            line_of("the night has ended", "", ""),
+            "give another FILE for the next night",
+        )
     }
 
     /// Another night is kept in this file, by this process where that is known.
@@ -173,12 +167,10 @@ impl Refusal {
             "lines of a night are written to it: end that night, or give another FILE" ∷ []))
             result }
     {
-        Refusal {
-            line: line_in_use(process),
-            remark: plain(
-                "lines of a night are written to it: end that night, or give another FILE",
-            ),
-        }
+        by_rule(
+            line_in_use(process),
+            "lines of a night are written to it: end that night, or give another FILE",
+        )
     }
 
     /// The night was to begin in a cue, and the file of this name has one that goes on elsewhere.
@@ -194,6 +186,17 @@ impl Refusal {
             ),
             remark: Remark::new(),
         }
+    }
+}
+
+// By this line, with this rule behind it.
+fn by_rule(line: RefusalLine, rule: &str) -> Refusal
+    ensures line { result.line ≡ line }
+    ensures remark { result.remark.items ≡ remark_of (rule.now ∷ []) }
+{
+    Refusal {
+        line,
+        remark: plain(rule),
     }
 }
 

@@ -1,6 +1,7 @@
 ghost use Rattle.std.specs.Prelude.{◌≡◌, ◌++◌, [], ◌∷◌, codes, map, take};
 ghost use Rattle.cmd_explain.specs.Skipped.{display_byte, display_text};
 ghost use Rattle.remarks.specs.Remarks.{excerpt, of_device, of_seeming, refused_line, remark_of};
+ghost use Rattle.remarks.specs.Remarks.{seeming_line};
 
 use arrayvec::ArrayVec;
 use live_machine::reason;
@@ -52,6 +53,13 @@ pub fn of_seeming(what: &str) -> Remark
         part(what),
         b": check the file's name and how it was saved",
     ])
+}
+
+/// The line of what the file of a show without cues seems to be.
+pub fn seeming_line(what: &str) -> ArrayVec<u8, 513>
+    ensures { result.items ≡ seeming_line what.now }
+{
+    with_line_feed(&of_seeming(what))
 }
 
 /// The line that tells that a typed line is not carried out, and why.

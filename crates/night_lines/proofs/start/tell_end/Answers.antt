@@ -1,6 +1,6 @@
 use Rattle.std.proofs.Common.{◌≡◌, ◌++◌, ◌∷◌, ◌∙◌, [], ap, sym}
 use Rattle.night_lines.specs.Records.{main_line, take_line}
-use Rattle.night_lines.specs.Starts.{end_lines}
+use Rattle.night_lines.specs.Starts.{closing_lines}
 use Rattle.night_lines.proofs.Told.{behind}
 use Rattle.night_lines.proofs.start.tell_end.Goals as goal
 
@@ -17,4 +17,4 @@ returns-in-Some-clause-lines g c = λ tells.
     (c.tell.ensures.line (c.tell-in-Some.ensures.told tells))
     ∙ ap (λ line. before ++ line ∷ second ∷ []) is_main
     ∙ ap (λ line. before ++ main ∷ line ∷ []) is_take
-    ∙ ap (λ one. before ++ end_lines one c.args.is_interruptible) (sym c.in-Some.is)
+    ∙ ap (λ one. before ++ closing_lines one c.args.is_interruptible) (sym c.in-Some.is)

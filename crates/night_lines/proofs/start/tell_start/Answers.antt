@@ -1,6 +1,6 @@
 use Rattle.std.proofs.Common.{◌++◌, ◌∷◌, ◌∙◌, [], ap, append_assoc}
 use Rattle.night_lines.specs.StartNetworks.{network_lines}
-use Rattle.night_lines.specs.Starts.{end_lines, record_told, sends_lines, show_lines}
+use Rattle.night_lines.specs.Starts.{closing_lines, record_told, sends_lines, show_lines}
 use Rattle.night_lines.proofs.Told.{behind}
 use Rattle.night_lines.proofs.start.tell_start.Goals as goal
 
@@ -12,7 +12,7 @@ returns-clause-lines g c = λ tells.
     let sends = show ++ sends_lines start.sends in
     let network = sends ++ network_lines start.network in
     let told = record_told start.recording ∷ [] in
-    let end = end_lines start.main start.is_interruptible in
+    let end = closing_lines start.main start.is_interruptible in
     let at_record = c.tell_end.ensures.told tells in
     let at_network = c.tell_record.ensures.told at_record in
     let at_sends = c.tell_network.ensures.told at_network in

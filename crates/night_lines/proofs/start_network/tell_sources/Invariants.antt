@@ -1,5 +1,5 @@
 use Rattle.std.proofs.Common.{◌≡◌, ◌++◌, drop, map}
-use Rattle.night_lines.specs.StartNetworks.{source_line}
+use Rattle.night_lines.specs.StartNetworks.{origin_told}
 use Rattle.night_lines.proofs.start_network.tell_sources.Given as goal
 
 -- the lines so far, and those of the sources that are left
@@ -7,6 +7,6 @@ abbrev pub invariant-loop-source : goal.invariant-loop-source
 invariant-loop-source g l = let T = g.T.LineTeller in record {
   told : T.tells l.teller → T.tells l.initial.teller;
   lines : T.tells l.teller
-      → T.lines l.teller ++ map (source_line l.is_named) (drop l.source-index l.sources)
-      ≡ T.lines l.initial.teller ++ map (source_line l.is_named) l.sources;
+      → T.lines l.teller ++ map (origin_told l.is_named) (drop l.source-index l.sources)
+      ≡ T.lines l.initial.teller ++ map (origin_told l.is_named) l.sources;
 }

@@ -1,0 +1,33 @@
+-- Why a night tells nothing at its start.
+use Rattle.std.proofs.Common.{◌≡◌, ◌⊎◌, false, List, None, Some, inl, inr, refl}
+use Rattle.cmd_faults.specs.Runs.{of_show}
+use Rattle.cmd_faults.specs.declared.fault.RunFault.TheVariants as run
+use Rattle.night_opening.specs.NightStarts.{IsUntold}
+use Rattle.night_opening.specs.declared.night_start.NightAtStart.{NightAtStart}
+use Rattle.patch.specs.Frame.{is_base}
+use Rattle.show.specs.Tables.{Tables}
+use Rattle.show_line.specs.Said.{desk_limits}
+use Rattle.show_reader.specs.Reading.{text_fault}
+use Rattle.show_reader.specs.Shows.{IsShowOf}
+use Rattle.show_reader.specs.Text.{statements_of}
+use Rattle.show_reader.specs.declared.fault.ShowFault.{ShowFault}
+use Rattle.show_reader.specs.declared.fault.ShowFault.TheVariants.{Memory}
+use Rattle.show_reader.proofs.OneShow.{of_its_show}
+
+-- its show was not read
+pub unread : (night : NightAtStart) (reason : ShowFault)
+    → (reason ≡ Memory) ⊎ (text_fault desk_limits night.show.now ≡ Some reason)
+    → IsUntold night (of_show reason)
+unread night reason (inl is) = rw is (inr (inr refl))
+unread night reason (inr is) = inl (reason, is, refl)
+
+-- a universe of the show has no number
+pub without_numbers : (night : NightAtStart) (show : Tables)
+    → text_fault desk_limits night.show.now ≡ None
+    → IsShowOf (statements_of desk_limits night.show.now) show
+    → is_base show.patch night.night.now.base ≡ false → IsUntold night run.Base
+without_numbers night show faultless is none = inr (inl (
+  refl,
+  faultless,
+  of_its_show night.show.now (λ s. is_base s.patch night.night.now.base ≡ false) show is none,
+))
