@@ -1,4 +1,4 @@
-use crate::device_failure::of_socket_fault;
+use crate::jobs::of_socket_fault;
 use cmd_words::{Name, Night};
 use network_tables::Cards;
 use remarks::{DownCards, JobFault, Remark, of_card, of_route};

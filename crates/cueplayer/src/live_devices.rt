@@ -1,8 +1,7 @@
 ghost use Rattle.std.specs.Prelude.{[]};
 
 use crate::cards::open_network;
-use crate::device_failure::{of_device_fault, of_lock_fault, of_record};
-use crate::jobs::{NO_LOCK, link_of, run_end};
+use crate::line_night::link_of;
 use crate::live_booth::LiveBooth;
 use crate::live_job::Playbill;
 use crate::opening::clock_text;
@@ -16,7 +15,7 @@ use live_machine::{
 use night_lines::Place;
 use night_opening::{RecordStart, begin_record, counted_pause, opening_of, recording_of};
 use night_record::NightOpening;
-use remarks::{Failure, JobFault};
+use remarks::{Failure, JobFault, no_lock, of_lock, of_missing, of_record, run_end};
 use std::cell::RefCell;
 use std::time::Instant;
 use system_devices::{CidLock, Network, Pause, Record, RecordFile, SharedNetwork, TypedInput};
@@ -237,11 +236,11 @@ impl DeviceSystem for SystemDevices<'_, '_, '_> {
     }
 
     fn open_screen(&mut self) -> Result<Replies, JobFault> {
-        Ok(open_replies(self.rt).map_err(of_device_fault)?)
+        Ok(open_replies(self.rt).map_err(of_missing)?)
     }
 
     fn take_cid_lock(&mut self) -> Result<Option<CidLock>, JobFault> {
-        Ok(CidLock::take(self.rt, self.bill.night.cid).map_err(of_lock_fault)?)
+        Ok(CidLock::take(self.rt, self.bill.night.cid).map_err(of_lock)?)
     }
 
     fn open_network(&mut self) -> Result<Network, JobFault> {
@@ -271,7 +270,7 @@ impl StartSystem for SystemStart<'_, '_, '_, '_> {
     fn tell_missing_locks(&mut self) {
         let devices = &mut *self.devices;
         if devices.lock.is_none() {
-            devices.screen.tell(NO_LOCK);
+            devices.screen.tell(no_lock());
         }
         if let Some(file) = &devices.file
             && !file.has_lock()

@@ -1,6 +1,5 @@
 ghost use Rattle.std.specs.Prelude.{◌≤◌};
 
-use crate::jobs::identity;
 use crate::live_devices::Descriptors;
 use crate::live_name::live_name;
 use crate::reading::suitable_show;
@@ -11,6 +10,7 @@ use cmd_words::Night;
 use live_machine::{NightKind, play_night};
 use remarks::{Failure, JobFault, Refusal};
 use sacn_source::Identity;
+use show_jobs::identity;
 use std::fs::symlink_metadata;
 use std::io::ErrorKind;
 use system_devices::remove_unused_record;

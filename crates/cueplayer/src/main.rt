@@ -2,8 +2,8 @@
 #![tactic(auto)]
 
 mod cards;
-mod device_failure;
 mod jobs;
+mod line_night;
 mod link_watch;
 mod live_booth;
 mod live_devices;

@@ -1,13 +1,12 @@
 ghost use Rattle.std.specs.Prelude.{[]};
 
-use crate::device_failure::of_record;
 use crate::live_job::Playbill;
 use crate::opening::head_of;
 use crate::reading::{HEAD_PATIENCE, record_lines};
 use cmd_live::PlayedRecord;
 use devices::LinkFault;
 use night_record::{LineFront, NightOpening, own_lines};
-use remarks::{JobFault, Refusal};
+use remarks::{JobFault, Refusal, of_record};
 use std::io::ErrorKind;
 use std::thread::sleep;
 use std::time::Duration;

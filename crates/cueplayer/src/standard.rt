@@ -1,8 +1,7 @@
 ghost use Rattle.std.specs.Prelude.{[]};
 
-use crate::device_failure::of_device_fault;
 use night_opening::{StandardStream, StandardStreams, ask_for_screen};
-use remarks::Failure;
+use remarks::{Failure, of_missing};
 use std::io::ErrorKind;
 use std::os::fd::AsFd;
 use system_devices::{Messages, TypedInput, open_messages};
@@ -21,8 +20,8 @@ impl<'a> Standard<'a> {
     /// if an allocation failed.
     pub fn open(rt: &'a HostRuntime) -> Result<Self, Failure> {
         let is_told = ask_for_screen(&mut Descriptors { rt })?;
-        let input = TypedInput::open(rt).map_err(of_device_fault)?;
-        let messages = open_messages(rt, is_told).map_err(of_device_fault)?;
+        let input = TypedInput::open(rt).map_err(of_missing)?;
+        let messages = open_messages(rt, is_told).map_err(of_missing)?;
         Ok(Standard { input, messages })
     }
 }

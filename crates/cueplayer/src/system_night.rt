@@ -2,7 +2,7 @@ ghost use Rattle.std.specs.Prelude.{[], OnOk, OnSome};
 ghost use Rattle.cmd_live.specs.Stands.{IsPlayable};
 ghost use Rattle.night_opening.specs.Opening.{CanFollow, playable};
 
-use crate::jobs::{night_end, run_end};
+use crate::line_night::night_end;
 use crate::link_watch::LinkTeller;
 use crate::live_booth::LiveBooth;
 use crate::live_devices::{Beginning, Descriptors, LiveDevices, NightDevices, now};
@@ -17,7 +17,7 @@ use live_machine::{FollowEnd, MainLines, NightRole, NightSystem};
 use night_lines::{leading_line, over_line};
 use night_opening::{new_night, new_recording, open_night, place_of};
 use night_record::{Lead, NightOpening};
-use remarks::{Failure, JobFault, Refusal};
+use remarks::{Failure, JobFault, Refusal, run_end};
 use system_devices::RecordFile;
 
 /// A live night on this machine. It does not tell its steps.

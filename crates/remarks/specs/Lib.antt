@@ -7,4 +7,6 @@ pub mod Failures
 pub mod Targets
 pub mod Cards
 pub mod JobEnds
+pub mod Devices
 pub mod Listening
+pub mod RunEnds

@@ -67,6 +67,10 @@ abbrev pub in_use : Option ℕ → List ℕ
 in_use None = codes "in use"
 in_use (Some process) = codes "in use by process " ++ decimal process
 
+-- what is to be done then
+abbrev pub use_rule : List ℕ
+use_rule = codes "lines of a night are written to it: end that night, or give another FILE"
+
 -- a file with a night that goes on elsewhere than in the cue that was asked for
 abbrev pub has_night : List ℕ → List ℕ
 has_night file = shown_name file ++ codes " has a night; without --start it goes on"

@@ -23,17 +23,17 @@ abbrev pub of_line : ℕ → List ℕ → List ℕ → List ℕ
 of_line number text rule = with_rule (line_in number text) rule
 
 -- the line that a fault of a show names
-abbrev pub fault_line : ShowFault → Option ℕ
-fault_line fault.TooLong = None
-fault_line (fault.Ident line) = Some line
-fault_line (fault.MissingNumber line) = Some line
-fault_line (fault.BadNumber line) = Some line
-fault_line (fault.BadLevel line) = Some line
-fault_line (fault.BadTime line) = Some line
-fault_line (fault.HalfPair line) = Some line
-fault_line (fault.HalfTriple line) = Some line
-fault_line (fault.Limit line) = Some line
-fault_line fault.Memory = None
+abbrev pub line_number : ShowFault → Option ℕ
+line_number fault.TooLong = None
+line_number (fault.Ident line) = Some line
+line_number (fault.MissingNumber line) = Some line
+line_number (fault.BadNumber line) = Some line
+line_number (fault.BadLevel line) = Some line
+line_number (fault.BadTime line) = Some line
+line_number (fault.HalfPair line) = Some line
+line_number (fault.HalfTriple line) = Some line
+line_number (fault.Limit line) = Some line
+line_number fault.Memory = None
 
 -- what a show would have in place of the fault
 abbrev pub rule_of : ShowFault → List ℕ
@@ -61,7 +61,7 @@ at_line (Some number) text rule = of_line number text rule
 
 -- what is told of a fault of a show that this text is
 abbrev pub show_remark : ShowFault → List ℕ → List ℕ
-show_remark fault text = at_line (fault_line fault) text (rule_of fault)
+show_remark fault text = at_line (line_number fault) text (rule_of fault)
 
 -- what a rehearsal would have in place of the fault
 abbrev pub setup_rule : Fault → List ℕ

@@ -47,6 +47,13 @@ impl Failure {
         }
     }
 
+    /// The socket of a listen failed, for the system's reason.
+    pub fn of_socket(kind: ErrorKind) -> Failure
+        ensures { Fails run.Device (of_device (codes "the socket") kind) result }
+    {
+        Failure::of_device("the socket", kind)
+    }
+
     /// A device failed, as these words tell.
     pub fn device(words: &str) -> Failure
         ensures { Fails run.Device (remark_of (words.now ∷ [])) result }

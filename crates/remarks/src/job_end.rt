@@ -123,7 +123,7 @@ fn tell_line<W: Output>(fault: &JobFault, err: &mut W) -> u8
         JobFault::Doubts(_) => (b"show: Doubtful\n", SHOW_REFUSED),
         JobFault::Record(refusal) => (refusal.line.as_str().as_bytes(), RECORD_REFUSED),
     };
-    write_text(line, err);
+    tell_text(line, err);
     status
 }
 
@@ -144,13 +144,13 @@ fn tell_remark<W: Output>(remark: &Remark, err: &mut W)
         → WroteEach (spec.remark_texts remark.now.items) (W.tape err.old) (W.tape err.new) }
 {
     if !remark.is_empty() {
-        write_text(remark.as_slice(), err);
-        write_text(b"\n", err);
+        tell_text(remark.as_slice(), err);
+        tell_text(b"\n", err);
     }
 }
 
-// Tells a text in one write. That it is not told is told nowhere.
-pub(crate) fn write_text<W: Output>(text: &[u8], err: &mut W)
+/// Tells a text in one write. That it is not told is told nowhere.
+pub fn tell_text<W: Output>(text: &[u8], err: &mut W)
     ensures told { W.tells err.new → W.tells err.old }
     ensures text { W.tells err.new → Wrote text.now (W.tape err.old) (W.tape err.new) }
 {

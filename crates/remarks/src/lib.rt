@@ -11,6 +11,7 @@
 #![tactic(auto)]
 
 mod card;
+mod device;
 mod failure;
 mod job_end;
 mod listening;
@@ -18,13 +19,15 @@ mod misfit;
 mod name;
 mod refusal;
 mod remark;
+mod run_end;
 mod target;
 mod text_line;
 mod weight;
 
 pub use card::{DownCards, of_card, of_route};
+pub use device::{no_lock, of_lock, of_missing, of_record};
 pub use failure::{Failure, JobFault, LostPacket};
-pub use job_end::JobEnd;
+pub use job_end::{JobEnd, tell_text};
 pub use listening::tell_listening;
 pub use misfit::of_misfit;
 pub use name::{NameText, of_name};
@@ -32,6 +35,7 @@ pub use refusal::{Refusal, RefusalLine};
 pub use remark::{
     Remark, join, of_device, of_seeming, plain, push_shown, refused_line, seeming_line,
 };
+pub use run_end::{night_end, run_end};
 pub use target::of_target;
 pub use text_line::{of_line, of_setup, of_show};
 pub use weight::{of_weight, strict_end};

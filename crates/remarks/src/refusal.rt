@@ -6,7 +6,7 @@ ghost use Rattle.remarks.specs.Refusals.{has_night, in_use, line_rule};
 ghost use Rattle.remarks.specs.Refusals.{main_line_rule, main_rule, name_parts, no_record};
 ghost use Rattle.remarks.specs.Refusals.{number_parts, other_line, other_parts, over, record_rule};
 ghost use Rattle.remarks.specs.Refusals.{refusal_line, shared_cid, show_parts, spare_line_rule};
-ghost use Rattle.remarks.specs.Refusals.{unlike_line};
+ghost use Rattle.remarks.specs.Refusals.{unlike_line, use_rule};
 ghost use Rattle.remarks.specs.TextLines.{of_line};
 
 use crate::name::of_name;
@@ -163,9 +163,7 @@ impl Refusal {
 
     /// Another night is kept in this file, by this process where that is known.
     pub fn in_use(process: Option<u32>) -> Refusal
-        ensures { Rejects (in_use process) (remark_of (codes
-            "lines of a night are written to it: end that night, or give another FILE" ∷ []))
-            result }
+        ensures { Rejects (in_use process) (remark_of (use_rule ∷ [])) result }
     {
         by_rule(
             line_in_use(process),

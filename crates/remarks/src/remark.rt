@@ -66,10 +66,10 @@ pub fn seeming_line(what: &str) -> ArrayVec<u8, 513>
 pub fn refused_line(text: &[u8], why: &str) -> ArrayVec<u8, 513>
     ensures { result.items ≡ refused_line text.now why.now }
 {
-    with_line_feed(&refused(text, part(why)))
+    with_line_feed(&line_refusal(text, part(why)))
 }
 
-fn refused(text: &[u8], why: &[u8]) -> Remark
+fn line_refusal(text: &[u8], why: &[u8]) -> Remark
     ensures { result.items
         ≡ remark_of (codes "line refused: " ∷ text.now ∷ codes ": " ∷ why.now ∷ []) }
 {

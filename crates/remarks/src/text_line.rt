@@ -1,5 +1,5 @@
 ghost use Rattle.std.specs.Prelude.{◌≡◌, ◌≤◌, length, option_map, take};
-ghost use Rattle.remarks.specs.TextLines.{fault_line, line_in, of_line, rule_of};
+ghost use Rattle.remarks.specs.TextLines.{line_number, line_in, of_line, rule_of};
 ghost use Rattle.remarks.specs.TextLines.{setup_remark, setup_rule, show_remark};
 
 use crate::remark::{Remark, join, part, plain};
@@ -14,7 +14,7 @@ const LONGEST: usize = 16_777_217;
 pub fn of_show(fault: ShowFault, text: &[u8]) -> Remark
     ensures { result.items ≡ show_remark fault text.now }
 {
-    match fault_line(fault) {
+    match line_number(fault) {
         Some(number) => of_line(u64::from(number), text, rule_of(fault)),
         None => plain(rule_of(fault)),
     }
@@ -49,8 +49,8 @@ fn first_bytes<'a>(text: &'a [u8]) -> &'a [u8]
     &text[..text.len().min(LONGEST)]
 }
 
-fn fault_line(fault: ShowFault) -> Option<u32>
-    ensures { result ≡ fault_line fault }
+fn line_number(fault: ShowFault) -> Option<u32>
+    ensures { result ≡ line_number fault }
 {
     match fault {
         ShowFault::TooLong | ShowFault::Memory => None,

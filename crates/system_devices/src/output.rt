@@ -2,6 +2,7 @@ ghost use Rattle.std.specs.Prelude.{[]};
 
 use crate::way::kind_of;
 use devices::{LinkFault, Output};
+use job_devices::JobOutput;
 use line_queue::WriteHistory;
 use std::io::{ErrorKind, Write};
 
@@ -19,24 +20,6 @@ impl<W: Write> SystemOutput<W> {
             history: WriteHistory::new(),
         }
     }
-
-    /// Hands on what a buffer still holds.
-    pub fn flush(&mut self) -> Result<(), LinkFault> {
-        let answer = self.inner.flush().map_err(kind_of);
-        self.history.take_up(&[], answer)
-    }
-}
-
-impl<W> SystemOutput<W> {
-    /// The system's reason where a write failed: that of the last.
-    pub fn failure(&self) -> Option<ErrorKind> {
-        self.history.failure
-    }
-
-    /// Whether it was handed no byte so far.
-    pub fn is_empty(&self) -> bool {
-        self.history.is_empty
-    }
 }
 
 impl<W: Write> Output for SystemOutput<W> {
@@ -47,5 +30,24 @@ impl<W: Write> Output for SystemOutput<W> {
     fn write(&mut self, bytes: &[u8]) -> Result<(), LinkFault> {
         let answer = self.inner.write_all(bytes).map_err(kind_of);
         self.history.take_up(bytes, answer)
+    }
+}
+
+impl<W: Write> JobOutput for SystemOutput<W> {
+    ghost reason = { λ out. out.history.failure };
+
+    ghost is_handed_on = { λ _. ⊥ };
+
+    fn failure(&self) -> Option<ErrorKind> {
+        self.history.failure
+    }
+
+    fn is_empty(&self) -> bool {
+        self.history.is_empty
+    }
+
+    fn flush(&mut self) -> Result<(), LinkFault> {
+        let answer = self.inner.flush().map_err(kind_of);
+        self.history.take_up(&[], answer)
     }
 }

@@ -2,6 +2,7 @@ ghost use Rattle.std.specs.Prelude.{[]};
 
 use arrayvec::ArrayString;
 use devices::{Datagrams, LinkFault};
+use job_devices::JobSource;
 use packet_paths::{OpenFault, SocketCall, call_again, send_whole, socket_address};
 use std::fmt::Write;
 use std::io::ErrorKind;
@@ -55,11 +56,6 @@ impl ReceivingSocket {
             Err(_) => AddressText::new(),
         }
     }
-
-    /// The system's reason where a receipt failed.
-    pub fn failure(&self) -> Option<ErrorKind> {
-        self.failure
-    }
 }
 
 impl Datagrams for ReceivingSocket {
@@ -76,6 +72,14 @@ impl Datagrams for ReceivingSocket {
                 Err(LinkFault)
             }
         }
+    }
+}
+
+impl JobSource for ReceivingSocket {
+    ghost reason = { λ socket. socket.failure };
+
+    fn failure(&self) -> Option<ErrorKind> {
+        self.failure
     }
 }
 

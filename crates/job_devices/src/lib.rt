@@ -1,0 +1,24 @@
+//! What a job has of the machine, as contracts see it: an output that is standard output, and a
+//! source that is a socket, each of which knows why the system did not do what was asked; and what
+//! a night that is played from lines takes, in its order ([`play_night`]).
+//!
+//! Each has a device over memory beside it, for tests.
+//!
+//! ```
+//! let mut out = MemoryJobOutput::new(MemoryOutput::new(rt.alloc(), 0, 1), ErrorKind::BrokenPipe);
+//! let answer = out.write(b"one ");
+//! // answer.is_err(), and out.failure() is Some(ErrorKind::BrokenPipe).
+//! ```
+#![tactic(auto)]
+
+mod memory;
+mod memory_play;
+mod output;
+mod play;
+mod source;
+
+pub use memory::{MemoryJobOutput, MemoryJobSource};
+pub use memory_play::{MemoryPlay, PlayAnswers};
+pub use output::JobOutput;
+pub use play::{LockAnswer, PlayStep, PlaySystem, play_night};
+pub use source::JobSource;

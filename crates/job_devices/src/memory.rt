@@ -1,0 +1,134 @@
+ghost use Rattle.std.specs.Prelude.{◌≡◌, None, false, true};
+
+use crate::output::JobOutput;
+use crate::source::JobSource;
+use devices::memory::{MemoryDatagrams, MemoryOutput};
+use devices::{Datagrams, LinkFault, Output};
+use std::io::ErrorKind;
+
+/// An output over memory, whose failed calls have this reason.
+#[derive(Debug, Drop)]
+pub struct MemoryJobOutput {
+    pub output: MemoryOutput,
+    /// The reason that each failed call has.
+    pub kind: ErrorKind,
+    /// The reason where a call failed.
+    pub failure: Option<ErrorKind>,
+    /// Nothing was written since it was flushed.
+    pub is_handed_on: bool,
+}
+
+impl MemoryJobOutput {
+    /// An output of which no call was made yet, and which holds all back until it is flushed.
+    pub fn new(output: MemoryOutput, kind: ErrorKind) -> Self
+        ensures output { result.output ≡ output }
+        ensures kind { result.kind ≡ kind }
+        ensures failure { result.failure ≡ None }
+        ensures handed_on { result.is_handed_on ≡ false }
+    {
+        MemoryJobOutput {
+            output,
+            kind,
+            failure: None,
+            is_handed_on: false,
+        }
+    }
+
+    fn take_answer(&mut self, answer: Result<(), LinkFault>) -> Result<(), LinkFault>
+        ensures answer { result ≡ answer }
+        ensures output { self.new.output ≡ self.old.output }
+        ensures handed_on { self.new.is_handed_on ≡ self.old.is_handed_on }
+    {
+        if answer.is_err() {
+            self.failure = Some(self.kind);
+        }
+        answer
+    }
+}
+
+impl Output for MemoryJobOutput {
+    ghost tells = { λ m. m.output.full ≡ false };
+
+    ghost tape = { λ m. record {
+      items = m.output.bytes.items;
+      failures = m.output.faults.failed;
+    } };
+
+    fn write(&mut self, bytes: &[u8]) -> Result<(), LinkFault> {
+        self.is_handed_on = false;
+        let answer = self.output.write(bytes);
+        self.take_answer(answer)
+    }
+}
+
+impl JobOutput for MemoryJobOutput {
+    ghost reason = { λ m. m.failure };
+
+    ghost is_handed_on = { λ m. m.is_handed_on ≡ true };
+
+    fn failure(&self) -> Option<ErrorKind> {
+        self.failure
+    }
+
+    fn is_empty(&self) -> bool {
+        self.output.bytes.is_empty()
+    }
+
+    fn flush(&mut self) -> Result<(), LinkFault> {
+        self.is_handed_on = true;
+        let answer = self.output.write(b"");
+        self.take_answer(answer)
+    }
+}
+
+/// A source of datagrams over memory, whose failed calls have this reason.
+#[derive(Debug, Drop)]
+pub struct MemoryJobSource<'a> {
+    pub source: MemoryDatagrams<'a>,
+    /// The reason that each failed call has.
+    pub kind: ErrorKind,
+    /// The reason where a call failed.
+    pub failure: Option<ErrorKind>,
+}
+
+impl<'a> MemoryJobSource<'a> {
+    /// A source of which no call was made yet.
+    pub fn new(source: MemoryDatagrams<'a>, kind: ErrorKind) -> Self
+        ensures source { result.source ≡ source.entry }
+        ensures kind { result.kind ≡ kind }
+        ensures failure { result.failure ≡ None }
+    {
+        MemoryJobSource {
+            source,
+            kind,
+            failure: None,
+        }
+    }
+}
+
+impl Datagrams for MemoryJobSource<'_> {
+    ghost use Rattle.std.specs.Prelude.{map, take};
+
+    ghost tells = { λ m. m.source.exhausted ≡ false };
+
+    ghost tape = { λ m. record {
+      items = map (λ d. take 1500 d.now) (take m.source.next m.source.datagrams.now);
+      failures = m.source.faults.failed;
+    } };
+
+    fn receive(&mut self, buf: &mut [u8; 1500]) -> Result<usize, LinkFault> {
+        let answer = self.source.receive(buf);
+        if answer.is_err() {
+            self.failure = Some(self.kind);
+        }
+        answer
+    }
+}
+
+impl JobSource for MemoryJobSource<'_> {
+    ghost reason = { λ m. m.failure };
+
+    fn failure(&self) -> Option<ErrorKind> {
+        self.failure
+    }
+}

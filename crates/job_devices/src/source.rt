@@ -1,0 +1,15 @@
+ghost use Rattle.std.specs.Prelude.{◌≡◌, Option};
+ghost use Rattle.std.specs.declared.io.ErrorKind.{ErrorKind as KindOf};
+
+use devices::Datagrams;
+use std::io::ErrorKind;
+
+/// A socket, as a job receives by it. It knows why the system gave nothing.
+pub trait JobSource: Datagrams {
+    /// The system's reason where a call failed: that of the last.
+    ghost reason: { Self → Option KindOf };
+
+    /// The system's reason where a call failed: that of the last.
+    fn failure(&self) -> Option<ErrorKind>
+        ensures { result ≡ reason self.now };
+}

@@ -1,0 +1,2 @@
+pub mod Seemings
+pub mod Checks
