@@ -6,3 +6,4 @@ pub mod TakingUp
 pub mod Leading
 pub mod Standing
 pub mod Followings
+pub mod FollowingOn

@@ -29,7 +29,7 @@ use Rattle.live_input.specs.Night.{with_given}
 use Rattle.live_input.specs.Stands as live
 use Rattle.live_input.specs.Told.{IsGiven, Tells}
 use Rattle.cmd_live.specs.declared.night.Night.{Night}
-use Rattle.cmd_live.specs.Booth.{BoothState, Deed, BoothNote, begins, fails, happens, is_told, keys}
+use Rattle.cmd_live.specs.Booth.{BoothState, Deed, BoothNote, begins, with_fault, happens, is_told, keys}
 use Rattle.cmd_live.specs.Booth.{kept_at, refused, shown_at}
 use Rattle.cmd_live.specs.Booth.{waits_until}
 use Rattle.cmd_live.specs.Night.{InOrder, IsLived, Lives, Trace, answers_since, begins_at}
@@ -44,52 +44,48 @@ use Rattle.cmd_live.proofs.Texts.{takes_more, takes_none}
 
 -- ---- answers that give a line
 
+-- what is shown at an answer that gives a line
+abbrev pub ShowsLine : Answer → Type 0
+ShowsLine answer = (p : Production) (start : List Act) (older : List Answer) (newest : CarriedLine)
+    (run : List CarriedLine) → shown_in p start (answer ∷ older) (newest ∷ run)
+    ≡ shown_in p start older run
+    ++ shown_of p (history_from p.show start (lines_of_run run)) (reading_of newest.line)
+    newest.offers
+
+-- and what is told at it
+abbrev pub TellsKeys : Answer → Type 0
+TellsKeys answer = (older : List Answer)
+    → notes_of answer ≡ (if ignored_keys (answer ∷ older) then keys ∷ [] else [])
+
 pub record Gives (answer : Answer) (given : GivenLine) : Type 0 where
   pub line : List ℕ
   pub is_given : IsGiven given line
   pub lines_are : (older : List (List ℕ)) → with_given answer older ≡ line ∷ older
-  pub shown_is : (p : Production) (start : List Act) (older : List Answer) (newest : CarriedLine)
-      (run : List CarriedLine) → shown_in p start (answer ∷ older) (newest ∷ run)
-      ≡ shown_in p start older run
-      ++ shown_of p (history_from p.show start (lines_of_run run)) (reading_of newest.line)
-      newest.offers
-  pub told_is : (older : List Answer)
-      → notes_of answer ≡ (if ignored_keys (answer ∷ older) then keys ∷ [] else [])
+  pub shown_is : ShowsLine answer
+  pub told_is : TellsKeys answer
   pub waits_none : waits_of answer ≡ []
 
+by_line : (answer : Answer) (given : GivenLine) (line : List ℕ) → IsGiven given line
+    → ((older : List (List ℕ)) → with_given answer older ≡ line ∷ older) → ShowsLine answer
+    → TellsKeys answer → waits_of answer ≡ [] → Gives answer given
+by_line answer given line is lines shown told none = record {
+  line = line;
+  is_given = is;
+  lines_are = lines;
+  shown_is = shown;
+  told_is = told;
+  waits_none = none;
+}
+
 pub gives : (given : GivenLine) (answer : Answer) → Tells (Line given) answer → Gives answer given
-gives given (order moment line) t = record {
-  line = behind_moment moment (without_keys line);
-  is_given = t;
-  lines_are = λ _. refl;
-  shown_is = λ _ _ _ _ _. refl;
-  told_is = λ _. refl;
-  waits_none = refl;
-}
-gives given (dim moment typed) t = record {
-  line = behind_moment moment _;
-  is_given = t;
-  lines_are = λ _. refl;
-  shown_is = λ _ _ _ _ _. refl;
-  told_is = λ _. refl;
-  waits_none = refl;
-}
-gives given (close moment typed) t = record {
-  line = behind_moment moment _;
-  is_given = t;
-  lines_are = λ _. refl;
-  shown_is = λ _ _ _ _ _. refl;
-  told_is = λ _. refl;
-  waits_none = refl;
-}
-gives given (tick moment) t = record {
-  line = behind_moment moment _;
-  is_given = t;
-  lines_are = λ _. refl;
-  shown_is = λ _ _ _ _ _. refl;
-  told_is = λ _. refl;
-  waits_none = refl;
-}
+gives given (order moment line) t = by_line (order moment line) given
+    (behind_moment moment (without_keys line)) t (λ _. refl) (λ _ _ _ _ _. refl) (λ _. refl) refl
+gives given (dim moment typed) t = by_line (dim moment typed) given (behind_moment moment _) t
+    (λ _. refl) (λ _ _ _ _ _. refl) (λ _. refl) refl
+gives given (close moment typed) t = by_line (close moment typed) given (behind_moment moment _) t
+    (λ _. refl) (λ _ _ _ _ _. refl) (λ _. refl) refl
+gives given (tick moment) t = by_line (tick moment) given (behind_moment moment _) t
+    (λ _. refl) (λ _ _ _ _ _. refl) (λ _. refl) refl
 gives given _ t = absurd t
 
 -- ---- answers that give none
@@ -516,7 +512,7 @@ module _ {F : Type 0} (fader_stands_for : F → List Start → Type 0) where
   }
 
   pub breaks_none : (tells : Type 0) (night : Night F) (before after : BoothState)
-      (offered : List Send) → (tells → after ≡ fails before)
+      (offered : List Send) → (tells → after ≡ with_fault before)
       → BreaksOff fader_stands_for tells night night (trace_of before offered)
       (trace_of after offered)
   breaks_none tells night before after offered failed = record {

@@ -67,6 +67,11 @@ pub record HasTakenUp {F : Type 0} (fader_stands_for : F → List Start → Type
   pub stands : StandsFor fader_stands_for p night (recall_of lines)
   pub are_recalled : AreRecalled lines
 
+-- it has taken up lines alone, and none of its packets was lost: so it can follow a main
+abbrev pub CanFollow : {F : Type 0} → (F → List Start → Type 0) → Night F → Type 0
+CanFollow fader_stands_for night =
+    IsReady night × ((p : Production) × HasTakenUp fader_stands_for p night)
+
 -- the link is offered what is due at a line after a history
 pub record OffersLine (p : Production) (start : List Act) (line : List ℕ) (before after : List Send)
     : Type 0 where

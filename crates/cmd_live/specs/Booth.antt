@@ -53,8 +53,8 @@ abbrev pub shows : Tape ℕ → List Send → BoothState → BoothState
 shows text offered state = record state { shown = text; deeds = shown_at offered ∷ state.deeds }
 
 -- the clock or a wait failed
-abbrev pub fails : BoothState → BoothState
-fails state = record state { faults = state.faults + 1 }
+abbrev pub with_fault : BoothState → BoothState
+with_fault state = record state { faults = state.faults + 1 }
 
 -- what was heard: so many bytes at the front of the block, or the end of the input
 abbrev pub with_input : Heard → List ℕ → BoothState → BoothState

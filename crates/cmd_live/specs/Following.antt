@@ -1,17 +1,20 @@
 -- A night that follows a main. Lists of lines and of what it is told have the newest first.
-use Rattle.std.specs.Prelude.{◌≡◌, ◌≤◌, ◌⊎◌, ℕ, true, List, [], ◌∷◌, ◌++◌, length}
+use Rattle.std.specs.Prelude.{◌≡◌, ◌≤◌, ◌⊎◌, ℕ, Bool, true, false, List, [], ◌∷◌, ◌++◌, length}
+use Rattle.std.specs.Prelude.{Option, Some, None}
 use Rattle.devices.specs.Send.{Send}
 use Rattle.fade.specs.Level.{Start}
 use Rattle.console.specs.Streams.{Production}
 use Rattle.live_input.specs.Night.{answers, is_over}
 use Rattle.live_input.specs.Recall.{AreRecalled, IsRecalled, recall_of}
+use Rattle.live_machine.specs.declared.night_system.FollowEnd.{FollowEnd}
+use Rattle.live_machine.specs.declared.night_system.FollowEnd.TheVariants as follow
 use Rattle.cmd_live.specs.declared.follow.Pause.{Pause}
 use Rattle.cmd_live.specs.declared.follow.Pause.TheVariants.{Asked, Ended, Other}
 use Rattle.cmd_live.specs.declared.main_console.Led.{Led}
 use Rattle.cmd_live.specs.declared.main_console.Led.TheVariants.{Line, Where, End}
 use Rattle.cmd_live.specs.declared.night.Night.{Night}
 use Rattle.cmd_live.specs.Beginning.{TakesUp}
-use Rattle.cmd_live.specs.Stands.{StandsFor}
+use Rattle.cmd_live.specs.Stands.{OfEach, StandsFor}
 
 -- lines of the main, and nothing else
 abbrev pub led_by : List (List ℕ) → List Led → Type 0
@@ -67,3 +70,21 @@ HasFollowed fader_stands_for tells Other old new given gives before after =
     Stops fader_stands_for tells old given gives
 HasFollowed fader_stands_for tells pause old new given gives before after =
     Follows fader_stands_for tells pause old new given gives before after
+
+-- why a night does not follow its main for now; none at a line that no live night gives
+abbrev pub end_of_pause : Pause → Bool → Option FollowEnd
+end_of_pause Asked is_over = Some follow.Asked
+end_of_pause Ended true = Some follow.Over
+end_of_pause Ended false = Some follow.Ended
+end_of_pause Other is_over = None
+
+-- a night followed its main until it paused, and this says why, or that it came to a line that no
+-- live night gives
+pub record FollowsMain {F : Type 0} (fader_stands_for : F → List Start → Type 0) (tells : Type 0)
+    (end : Option FollowEnd) (old new : Night F) (given gives : List Led)
+    (before after : List Send) : Type 0 where
+  pub pause : Pause
+  pub is_over_now : Bool
+  pub end_is : end ≡ end_of_pause pause is_over_now
+  pub over : OfEach fader_stands_for new (λ p happened. is_over_now ≡ is_over (answers happened))
+  pub follows : HasFollowed fader_stands_for tells pause old new given gives before after

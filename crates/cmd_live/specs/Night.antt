@@ -18,7 +18,7 @@ use Rattle.live_input.specs.Night.{Answer, Happening, answer_to, answers, asked,
 use Rattle.live_input.specs.Night.{typed_line}
 use Rattle.live_input.specs.Night.{help, lines_given, now, over, place, refusal, refused_front}
 use Rattle.live_input.specs.Night.{wait}
-use Rattle.cmd_live.specs.Booth.{BoothState, Deed, BoothNote, begins, fails, keys, kept_at, refused}
+use Rattle.cmd_live.specs.Booth.{BoothState, Deed, BoothNote, begins, with_fault, keys, kept_at, refused}
 use Rattle.cmd_live.specs.Booth.{shown_at}
 use Rattle.cmd_live.specs.Shown.{Takes, help_text, shown_of, shown_place}
 
@@ -131,7 +131,7 @@ pub record IsLived (p : Production) (first : List Happening) (before after : Tra
 -- next for 2^64 - 1 times, which at one a nanosecond are 584 years
 abbrev pub Breaks : List Happening → BoothState → BoothState → Type 0
 Breaks happened middle after =
-    (after ≡ fails middle) ⊎ ((after ≡ middle) × (18446744073709551615 ≤ length happened))
+    (after ≡ with_fault middle) ⊎ ((after ≡ middle) × (18446744073709551615 ≤ length happened))
 
 -- a night from where its clock was set, by its answer: it is over, and no packet was lost, or so
 -- many were; or it broke off, and what was given before was carried out

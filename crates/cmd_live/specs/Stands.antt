@@ -17,7 +17,7 @@ use Rattle.live_input.specs.Kept.{InputState}
 use Rattle.live_input.specs.Laws.{NothingIsAsked}
 use Rattle.live_input.specs.Stands as live
 use Rattle.cmd_live.specs.declared.night.Night.{Night}
-use Rattle.cmd_live.specs.Booth.{BoothState, Deed, fails, is_told, kept_at, keys, shown_at}
+use Rattle.cmd_live.specs.Booth.{BoothState, Deed, with_fault, is_told, kept_at, keys, shown_at}
 use Rattle.cmd_live.specs.Night.{Lives, Trace, trace_of}
 use Rattle.cmd_live.specs.Shown.{Takes, shown_of}
 
@@ -102,7 +102,7 @@ pub record BreaksOff {F : Type 0} (fader_stands_for : F → List Start → Type 
     (tell : Type 0) (old new : Night F) (before after : Trace) : Type 0 where
   pub middle : BoothState
   pub goes : GoesOn fader_stands_for tell old new before (trace_of middle after.offered)
-  pub fails_at : tell → after.booth ≡ fails middle
+  pub fails_at : tell → after.booth ≡ with_fault middle
 
 -- it has gone on, and was asked what is next for as often as it can be
 pub record WearsOut {F : Type 0} (fader_stands_for : F → List Start → Type 0)

@@ -153,7 +153,12 @@ impl<W: MainWatch> Backup<W> {
         if self.is_silent() {
             return self.end(Ending::Silent);
         }
-        self.wait_typed()
+        match self.watch.wait() {
+            Ok(Came::TypedEnd) => self.watch.remind(),
+            Ok(Came::Bytes(_) | Came::Nothing | Came::End) => {}
+            Err(_) => return self.end(Ending::Gone),
+        }
+        None
     }
 
     // A clock that cannot be read ends the following, and then the night.
@@ -176,23 +181,6 @@ impl<W: MainWatch> Backup<W> {
             Ok(passed) => is_silent(passed, self.patience),
             Err(_) => true,
         }
-    }
-
-    fn wait_typed(&mut self) -> Option<Led>
-        ensures told { W.tells self.new.watch → W.tells self.old.watch }
-        ensures led { W.tells self.new.watch → W.left self.old.watch ≡ []
-            → LedTo self.old.patience result self.new.ending (W.left self.new.watch)
-            (W.events self.old.watch) (W.events self.new.watch) }
-        ensures more { W.tells self.new.watch
-            → length (W.events self.old.watch) < length (W.events self.new.watch) }
-        ensures same { self.new.patience ≡ self.old.patience }
-    {
-        match self.watch.wait() {
-            Ok(Came::TypedEnd) => self.watch.remind(),
-            Ok(Came::Bytes(_) | Came::Nothing | Came::End) => {}
-            Err(_) => return self.end(Ending::Gone),
-        }
-        None
     }
 }
 

@@ -1,8 +1,8 @@
-ghost use Rattle.std.specs.Prelude.{◌≡◌};
+ghost use Rattle.std.specs.Prelude.{◌≡◌, OnSome};
 ghost use Rattle.console.specs.Streams.{Production};
 ghost use Rattle.live_input.specs.Night.{now};
-ghost use Rattle.cmd_live.specs.Beginning.{HasTakenUp, IsReady};
-ghost use Rattle.cmd_live.specs.Following.{HasFollowed};
+ghost use Rattle.cmd_live.specs.Beginning.{CanFollow, HasTakenUp, IsReady};
+ghost use Rattle.cmd_live.specs.Following.{FollowsMain, HasFollowed, end_of_pause};
 ghost use Rattle.cmd_live.specs.Night.{history_at};
 ghost use Rattle.cmd_live.specs.Shown.{shown_place};
 ghost use Rattle.cmd_live.specs.Stands.{OfEach, ShowsText};
@@ -13,6 +13,7 @@ use crate::night::Night;
 use crate::place;
 use devices::Link;
 use fade::Fader;
+use live_machine::FollowEnd;
 
 /// Why a night does not follow for now.
 #[derive(Clone, Copy, Debug, PartialEq, Eq)]
@@ -24,6 +25,21 @@ pub enum Pause {
     /// No live night gives the newest line behind those before it. Then this night is of no use any
     /// more.
     Other,
+}
+
+impl Pause {
+    // Why a night does not follow its main for now, by whether it is over; `None` at a line that no
+    // live night gives.
+    fn follow_end(self, is_over: bool) -> Option<FollowEnd>
+        ensures { result ≡ end_of_pause self is_over }
+    {
+        match self {
+            Pause::Asked => Some(FollowEnd::Asked),
+            Pause::Ended if is_over => Some(FollowEnd::Over),
+            Pause::Ended => Some(FollowEnd::Ended),
+            Pause::Other => None,
+        }
+    }
 }
 
 impl<F: Fader> Night<F> {
@@ -54,6 +70,25 @@ impl<F: Fader> Night<F> {
             }
         }
         Pause::Ended
+    }
+
+    /// Follows a main, as [`Night::follow`] does: why the night does not for now, or `None` at a line
+    /// that no live night gives. Unless it was that, the night can follow on.
+    pub fn follow_main<M: MainConsole, L: Link>(
+        &mut self,
+        main: &mut M,
+        link: &mut L,
+    ) -> Option<FollowEnd>
+        requires { CanFollow F.stands_for self.old }
+        ensures follows { FollowsMain F.stands_for (M.tells main.new × L.tells link.new) result
+            self.old self.new (M.given main.old) (M.given main.new) (L.offered link.old)
+            (L.offered link.new) }
+        ensures on { OnSome result (CanFollow F.stands_for self.new) }
+        ensures told_main { M.tells main.new → M.tells main.old }
+        ensures told_link { L.tells link.new → L.tells link.old }
+    {
+        let pause = self.follow(main, link);
+        pause.follow_end(self.is_over())
     }
 
     /// Shows where the night is, at the moment of its last line, behind all that is offered to this

@@ -4,6 +4,8 @@
 mod kept;
 mod main_watch;
 mod played_record;
+mod standing_lines;
 
 pub use main_watch::MemoryWatch;
 pub use played_record::MemoryPlayedRecord;
+pub use standing_lines::StandingLines;

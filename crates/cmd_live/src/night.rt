@@ -2,7 +2,7 @@ ghost use Rattle.std.specs.Prelude.{◌≡◌, ◌≤◌, ◌⊎◌, List, [], l
 ghost use Rattle.live_input.specs.Night.{Happening, answers, ignored_keys, is_over};
 ghost use Rattle.live_input.specs.Stands as live;
 ghost use Rattle.cmd_live.specs.Night.{trace_of};
-ghost use Rattle.cmd_live.specs.Booth.{fails, waits_until};
+ghost use Rattle.cmd_live.specs.Booth.{with_fault, waits_until};
 ghost use Rattle.cmd_live.specs.Stands.{BreaksOff, GoesOn, HasHistory, OfEach, Waits, WearsOut};
 ghost use Rattle.cmd_live.specs.Stands.{told_keys};
 
@@ -87,7 +87,7 @@ impl<F: Fader> Night<F> {
             (waits_until due (B.state booth.old)) (B.state booth.new)) }
         ensures unchanged { OnErr result (self.new ≡ self.old) }
         ensures broke { OnErr result (B.tells booth.new
-            → B.state booth.new ≡ fails (waits_until due (B.state booth.old))) }
+            → B.state booth.new ≡ with_fault (waits_until due (B.state booth.old))) }
     {
         let mut block = [0; 4096];
         match booth.wait(moment, due, &mut block)? {

@@ -1,6 +1,7 @@
-ghost use Rattle.std.specs.Prelude.{[], OnOk, OnSome};
+ghost use Rattle.std.specs.Prelude.{[], OnOk};
+ghost use Rattle.cmd_live.specs.Beginning.{CanFollow};
 ghost use Rattle.cmd_live.specs.Stands.{IsPlayable};
-ghost use Rattle.night_opening.specs.Opening.{CanFollow, playable};
+ghost use Rattle.night_opening.specs.Opening.{playable};
 
 use crate::line_night::night_end;
 use crate::link_watch::LinkTeller;
@@ -10,7 +11,7 @@ use crate::live_job::{MainWords, Playbill};
 use crate::main_record::{MainRecord, WatchedMain};
 use crate::own_record::OwnRecord;
 use crate::start_lines::StartLines;
-use cmd_live::{Backup, Night, Pause, Silent, Spare};
+use cmd_live::{Backup, Night, Silent, Spare};
 use devices::Link;
 use fade::{Fader, StepFader};
 use live_machine::{FollowEnd, MainLines, NightRole, NightSystem};
@@ -233,39 +234,12 @@ fn follow_lines<'a, L: Link>(
 {
     let patience = main.words.patience;
     let mut backup = Backup::new(WatchedMain { rt, main, booth }, patience);
-    let end = follow_backup(night, &mut backup, link);
+    let end = night.follow_main(&mut backup, link);
     let ending = backup.ending;
     main.ending = ending;
     match end {
         Some(end) => Ok(end),
-        None => {
-            let number = main.lines.number;
-            Err(JobFault::Record(Refusal::main_line(number)))
-        }
-    }
-}
-
-// `None` at a line that a night like this does not give.
-fn follow_backup<L: Link>(
-    night: &mut Night<StepFader>,
-    backup: &mut Backup<WatchedMain<'_, '_, '_>>,
-    link: &mut L,
-) -> Option<FollowEnd>
-    requires { CanFollow ⟦<StepFader as Fader>⟧.stands_for night.old }
-    ensures { OnSome result (CanFollow ⟦<StepFader as Fader>⟧.stands_for night.new) }
-{
-    match night.follow(backup, link) {
-        Pause::Asked => Some(FollowEnd::Asked),
-        Pause::Ended => Some(end_of(night)),
-        Pause::Other => None,
-    }
-}
-
-fn end_of(night: &Night<StepFader>) -> FollowEnd {
-    if night.is_over() {
-        FollowEnd::Over
-    } else {
-        FollowEnd::Ended
+        None => Err(JobFault::Record(Refusal::main_line(main.lines.number))),
     }
 }
 
@@ -277,12 +251,11 @@ fn follow_record(
     requires { CanFollow ⟦<StepFader as Fader>⟧.stands_for night.old }
     ensures { OnOk result (CanFollow ⟦<StepFader as Fader>⟧.stands_for night.new) }
 {
-    match night.follow(played, &mut Silent) {
-        Pause::Other => {
+    match night.follow_main(played, &mut Silent) {
+        Some(_) => Ok(()),
+        None => {
             let number = played.record.lines.number;
             Err(JobFault::Record(Refusal::spare_line(number)))
         }
-        Pause::Ended => Ok(()),
-        Pause::Asked => Ok(()),
     }
 }

@@ -14,7 +14,7 @@ use Rattle.cmd_faults.specs.declared.fault.RunFault.TheVariants as run
 use Rattle.cmd_play.specs.Opened.{Refuses}
 use Rattle.cmd_words.specs.declared.job.Night.{Night as NightWords}
 use Rattle.cmd_live.specs.declared.night.Night.{Night}
-use Rattle.cmd_live.specs.Beginning.{BeginsWith, HasTakenUp, IsFirstOther, IsReady, OpensNight}
+use Rattle.cmd_live.specs.Beginning.{BeginsWith, CanFollow, IsFirstOther, OpensNight}
 use Rattle.cmd_live.specs.Beginning.{TakesUp, has_cue}
 use Rattle.cmd_live.specs.Stands.{IsPlayable, OfEach, StandsFor}
 use Rattle.night_record.specs.NightOpening.{IsNightOpening, goes_on, lines_of_night, no_lines}
@@ -32,12 +32,7 @@ use Rattle.night_opening.specs.Heads.{IsHeadFor}
 use Rattle.night_opening.specs.declared.playbill.LiveWords.{LiveWords}
 use Rattle.night_opening.specs.declared.playbill.Playbill.{Playbill}
 
--- it has taken up lines alone, and none of its packets was lost: so it can follow a main
-abbrev pub CanFollow : {F : Type 0} → (F → List Start → Type 0) → Night F → Type 0
-CanFollow fader_stands_for night =
-    IsReady night × ((p : Production) × HasTakenUp fader_stands_for p night)
-
--- so it can be played, too
+-- a night that can follow can be played, too
 pub playable : {F : Type 0} (stands_for : F → List Start → Type 0) (night : Night F)
     → CanFollow stands_for night → IsPlayable stands_for night
 playable stands_for night can =

@@ -1,9 +1,11 @@
 ghost use Rattle.std.specs.Prelude.{◌≡◌, ◌≤◌, ◌<◌, ◌∷◌, [], List, ℕ, length, take, map, reverse};
 ghost use Rattle.std.specs.Prelude.{false, true, is_err, IfOk, IfSome, IsNone, OnErr};
 ghost use Rattle.cmd_live.specs.Backup.{following_began};
+ghost use Rattle.cmd_live.specs.Kept.{bytes_of_each, standing_lines};
 ghost use Rattle.cmd_live.specs.declared.main_watch.MainEvent.TheVariants as event;
 
 use super::kept::{copy, note};
+use super::standing_lines::StandingLines;
 use crate::main_watch::{MainDeed, MainEvent, MainWatch};
 use devices::LinkFault;
 use devices::memory::Faults;
@@ -16,12 +18,8 @@ use std::time::Duration;
 /// lines that are typed, one at each wait. It stops telling where memory for an event is refused.
 #[derive(Debug, Drop)]
 pub struct MemoryWatch<'a> {
-    /// The lines of the main that its record has not given, with those that are still to come.
-    pub lines: &'a [LineFront],
-    /// So many of these stood there at the latest look.
-    pub standing: usize,
-    /// So many more are written before each look.
-    pub step: usize,
+    /// The lines of the main.
+    pub lines: StandingLines<'a>,
     /// The lines that were not taken yet, with those that are still to be typed.
     pub typed: &'a [LineFront],
     /// So many of these were typed.
@@ -40,24 +38,21 @@ pub struct MemoryWatch<'a> {
     pub is_lost: bool,
     /// Which looks, readings of the clock and waits fail.
     pub faults: Faults,
-    ghost within: { standing ≤ length lines.now },
     ghost begun: { is_lost ≡ false → is_on ≡ following_began (reverse events.items) },
 }
 
 impl<'a> MemoryWatch<'a> {
     /// A main of which no line stands there yet. Nothing fails, and time stands still.
     pub fn new(alloc: Global, lines: &'a [LineFront], typed: &'a [LineFront], step: usize) -> Self
-        ensures lines { (result.lines.now ≡ lines.now) × (result.standing ≡ 0) }
+        ensures lines { (result.lines.lines.now ≡ lines.now) × (result.lines.standing ≡ 0) }
         ensures typed { (result.typed.now ≡ typed.now) × (result.waiting ≡ 0) }
-        ensures step { result.step ≡ step }
+        ensures step { result.lines.step ≡ step }
         ensures empty { result.events.items ≡ [] }
         ensures tells { result.is_lost ≡ false }
         ensures begun { result.is_on ≡ false }
     {
         MemoryWatch {
-            lines,
-            standing: 0,
-            step,
+            lines: StandingLines::new(lines, step),
             typed,
             waiting: 0,
             looks: u64::MAX,
@@ -86,8 +81,7 @@ impl<'a> MemoryWatch<'a> {
         ensures told { self.new.is_lost ≡ false → self.old.is_lost ≡ false }
         ensures event { self.new.is_lost ≡ false → reverse self.new.events.items
             ≡ event ∷ reverse self.old.events.items }
-        ensures left { (self.new.standing ≡ self.old.standing)
-            × (self.new.lines.now ≡ self.old.lines.now) }
+        ensures left { self.new.lines ≡ self.old.lines }
         ensures rest { (self.new.passed ≡ self.old.passed) × (self.new.is_on ≡ self.old.is_on) }
     {
         note(&mut self.events, &mut self.is_lost, event);
@@ -99,7 +93,7 @@ impl MainWatch for MemoryWatch<'_> {
 
     ghost events = { λ m. reverse m.events.items };
 
-    ghost left = { λ m. take m.standing (map (λ line. line.items) m.lines.now) };
+    ghost left = { λ m. bytes_of_each (standing_lines m.lines) };
 
     fn typed_line(&mut self) -> Option<LineFront> {
         if self.waiting == 0 || self.typed.is_empty() {
@@ -114,19 +108,10 @@ impl MainWatch for MemoryWatch<'_> {
     }
 
     fn next_line(&mut self) -> Option<LineFront> {
-        if self.standing == 0 {
-            return None;
-        }
-        let line = &self.lines[0];
-        let given = copy(line);
-        note(
-            &mut self.events,
-            &mut self.is_lost,
-            MainEvent::Came(copy(line)),
-        );
-        self.lines = &self.lines[1..];
-        self.standing -= 1;
-        Some(given)
+        let line = self.lines.next_line()?;
+        let event = MainEvent::Came(copy(&line));
+        note(&mut self.events, &mut self.is_lost, event);
+        Some(line)
     }
 
     fn look(&mut self) -> Result<bool, LinkFault> {
@@ -134,12 +119,8 @@ impl MainWatch for MemoryWatch<'_> {
             self.happens(MainEvent::Unreadable);
             return Err(LinkFault);
         }
-        self.standing = self
-            .standing
-            .saturating_add(self.step)
-            .min(self.lines.len());
         self.looks = self.looks.saturating_sub(1);
-        let found = self.standing > 0;
+        let found = self.lines.look();
         self.happens(MainEvent::Looked(found));
         Ok(found)
     }

@@ -3,13 +3,14 @@ ghost use Rattle.std.specs.Prelude.{true};
 ghost use Rattle.std.specs.Prelude.{is_err, reverse, map, IfOk, IfSome, IsNone, OnErr};
 ghost use Rattle.devices.specs.Failing.{IsCounted, is_failing};
 ghost use Rattle.cmd_live.specs.Spare.{AreFirstLines, has_had_lock, given_by_record};
-ghost use Rattle.cmd_live.specs.Kept.{standing_lines};
+ghost use Rattle.cmd_live.specs.Kept.{bytes_of_each, standing_lines};
 ghost use Rattle.cmd_live.specs.declared.played_record.RecordEvent.TheVariants.{Gave};
 ghost use Rattle.cmd_live.specs.declared.played_record.RecordEvent.TheVariants.{Looked};
 ghost use Rattle.cmd_live.specs.declared.played_record.RecordEvent.TheVariants.{Tried};
 ghost use Rattle.cmd_live.specs.declared.played_record.RecordEvent.TheVariants.{Failed};
 
 use super::kept::{copy, note};
+use super::standing_lines::StandingLines;
 use crate::played_record::{PlayedRecord, RecordEvent};
 use devices::LinkFault;
 use devices::memory::Faults;
@@ -20,12 +21,8 @@ use std::alloc::Global;
 /// lock is let go. It stops telling where memory for an event is refused.
 #[derive(Debug, Drop)]
 pub struct MemoryPlayedRecord<'a> {
-    /// The lines that it has not given, with those that are still to be written.
-    pub lines: &'a [LineFront],
-    /// So many of these stood there at the latest look.
-    pub standing: usize,
-    /// So many more are written before each look.
-    pub step: usize,
+    /// Its lines.
+    pub lines: StandingLines<'a>,
     /// Its lock is refused so many times yet.
     pub refusals: u64,
     pub has_lock: bool,
@@ -34,7 +31,6 @@ pub struct MemoryPlayedRecord<'a> {
     /// Memory was refused: events are missing.
     pub is_lost: bool,
     pub faults: Faults,
-    ghost within: { standing ≤ length lines.now },
     ghost lock: { is_lost ≡ false → has_lock ≡ has_had_lock (reverse events.items) },
 }
 
@@ -48,17 +44,15 @@ impl<'a> MemoryPlayedRecord<'a> {
         refusals: u64,
         faults: Faults,
     ) -> Self
-        ensures lines { (result.lines.now ≡ lines.now) × (result.standing ≡ 0) }
+        ensures lines { (result.lines.lines.now ≡ lines.now) × (result.lines.standing ≡ 0) }
         ensures empty { result.events.items ≡ [] }
         ensures tells { result.is_lost ≡ false }
         ensures lock { (result.refusals ≡ refusals) × (result.has_lock ≡ false) }
-        ensures step { result.step ≡ step }
+        ensures step { result.lines.step ≡ step }
         ensures faults { result.faults ≡ faults }
     {
         MemoryPlayedRecord {
-            lines,
-            standing: 0,
-            step,
+            lines: StandingLines::new(lines, step),
             refusals,
             has_lock: false,
             events: Vec::new(alloc),
@@ -73,23 +67,14 @@ impl PlayedRecord for MemoryPlayedRecord<'_> {
 
     ghost events = { λ m. reverse m.events.items };
 
-    ghost written = { λ m. standing_lines m.standing (map (λ line. line.items) m.lines.now)
+    ghost written = { λ m. reverse (bytes_of_each (standing_lines m.lines))
         ++ given_by_record (reverse m.events.items) };
 
     fn next_line(&mut self) -> Option<LineFront> {
-        if self.standing == 0 {
-            return None;
-        }
-        let line = &self.lines[0];
-        let given = copy(line);
-        note(
-            &mut self.events,
-            &mut self.is_lost,
-            RecordEvent::Gave(copy(line)),
-        );
-        self.lines = &self.lines[1..];
-        self.standing -= 1;
-        Some(given)
+        let line = self.lines.next_line()?;
+        let event = RecordEvent::Gave(copy(&line));
+        note(&mut self.events, &mut self.is_lost, event);
+        Some(line)
     }
 
     fn look(&mut self) -> Result<bool, LinkFault> {
@@ -97,14 +82,11 @@ impl PlayedRecord for MemoryPlayedRecord<'_> {
             note(&mut self.events, &mut self.is_lost, RecordEvent::Failed);
             return Err(LinkFault);
         }
-        self.standing = if self.has_lock {
-            self.lines.len()
+        let found = if self.has_lock {
+            self.lines.look_at_all()
         } else {
-            self.standing
-                .saturating_add(self.step)
-                .min(self.lines.len())
+            self.lines.look()
         };
-        let found = self.standing > 0;
         note(
             &mut self.events,
             &mut self.is_lost,
