@@ -1,6 +1,7 @@
 ghost use Rattle.std.specs.Prelude.{◌≡◌, IfOk, OnOk, option_map};
+ghost use Rattle.cmd_live.specs.Beginning.{CanFollow};
 ghost use Rattle.cmd_live.specs.Stands.{IsPlayable};
-ghost use Rattle.night_opening.specs.Opening.{BeginsIn, CanFollow, HasGoneOn, IsNewNight};
+ghost use Rattle.night_opening.specs.Opening.{BeginsIn, HasGoneOn, IsNewNight};
 ghost use Rattle.night_opening.specs.Opening.{IsOpeningBy, IsOpeningFor, IsStillOn, OpensBy};
 ghost use Rattle.night_opening.specs.Opening.{StartsBy, TakesUpRecord, text_in_record, unused_file};
 
