@@ -1,10 +1,9 @@
 use crate::jobs::of_socket_fault;
 use cmd_words::{Name, Night};
-use network_tables::Cards;
-use remarks::{DownCards, JobFault, Remark, of_card, of_route};
+use night_opening::{of_refused_card, of_refused_route};
+use remarks::JobFault;
 use system_devices::{
-    Leaving, NamedRefusal, Network, NetworkRefusal, SocketFault, SystemCards, read_cards,
-    source_by_name,
+    Leaving, Network, NetworkRefusal, SocketFault, SystemCards, read_cards, source_by_name,
 };
 
 /// Opens the sockets of a night.
@@ -32,10 +31,7 @@ fn of_network_refusal(refusal: NetworkRefusal) -> JobFault {
         NetworkRefusal::Socket(fault) => {
             JobFault::Run(of_socket_fault(SocketFault::of_night(fault)))
         }
-        NetworkRefusal::Route(refused) => {
-            let (card, other) = (refused.card.as_str(), refused.other.as_str());
-            JobFault::Words(of_route(refused.host, card, other))
-        }
+        NetworkRefusal::Route(refused) => of_refused_route(&refused),
     }
 }
 
@@ -47,12 +43,6 @@ fn source_of(rt: &HostRuntime, night: &Night) -> Result<Option<[u8; 4]>, JobFaul
     let cards = read_cards(rt);
     match source_by_name(&mut SystemCards::new(rt), named, &cards) {
         Ok(address) => Ok(Some(address)),
-        Err(refusal) => Err(JobFault::Words(of_named_refusal(named, &refusal, &cards))),
+        Err(refusal) => Err(of_refused_card(named, &refusal, &cards)),
     }
-}
-
-fn of_named_refusal(named: &str, refusal: &NamedRefusal, cards: &Cards) -> Remark {
-    let names = refusal.hidden.names.as_str();
-    let count = refusal.hidden.count;
-    of_card(named, refusal.reason, cards, DownCards { names, count })
 }

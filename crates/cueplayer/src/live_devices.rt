@@ -13,17 +13,15 @@ use live_machine::{
     open_devices, start_night,
 };
 use night_lines::Place;
-use night_opening::{RecordStart, begin_record, counted_pause, opening_of, recording_of};
+use night_opening::{
+    RecordStart, begin_record, counted_pause, opening_of, recording_of, tell_missing_locks,
+};
 use night_record::NightOpening;
-use remarks::{Failure, JobFault, no_lock, of_lock, of_missing, of_record, run_end};
+use remarks::{Failure, JobFault, of_lock, of_missing, of_record, run_end};
 use std::cell::RefCell;
 use std::time::Instant;
 use system_devices::{CidLock, Network, Pause, Record, RecordFile, SharedNetwork, TypedInput};
 use targets::TargetLink;
-
-// Told where the file system of a record has no locks.
-const NO_RECORD_LOCK: &[u8] =
-    b"record: no lock can be made, so a second night in this FILE would begin\n";
 
 /// The descriptors that a live night was started with, and where its network comes to lie.
 #[derive(Drop)]
@@ -269,14 +267,8 @@ impl StartSystem for SystemStart<'_, '_, '_, '_> {
 
     fn tell_missing_locks(&mut self) {
         let devices = &mut *self.devices;
-        if devices.lock.is_none() {
-            devices.screen.tell(no_lock());
-        }
-        if let Some(file) = &devices.file
-            && !file.has_lock()
-        {
-            devices.screen.tell(NO_RECORD_LOCK);
-        }
+        let record_lock = devices.file.as_ref().map(RecordFile::has_lock);
+        tell_missing_locks(&mut devices.screen, devices.lock.is_some(), record_lock);
     }
 
     fn tell_lines(&mut self) -> Result<(), JobFault> {

@@ -1,4 +1,4 @@
-ghost use Rattle.std.specs.Prelude.{◌≤◌};
+ghost use Rattle.std.specs.Prelude.{◌≤◌, []};
 
 use crate::live_devices::Descriptors;
 use crate::live_name::live_name;
@@ -7,7 +7,7 @@ use crate::standard::Standard;
 use crate::system_night::SystemNight;
 use cmd_faults::RunFault;
 use cmd_words::Night;
-use live_machine::{NightKind, play_night};
+use live_machine::{NightKind, NightRun, play_night, run_night};
 use remarks::{Failure, JobFault, Refusal};
 use sacn_source::Identity;
 use show_jobs::identity;
@@ -33,20 +33,48 @@ pub fn play_live(rt: &HostRuntime, mut night: Night, words: LiveWords<'_>) -> Re
         night.name = Some(name);
     }
     let source = identity(&night)?;
-    let made = words.record_file.filter(|name| is_missing(rt, name));
-    match play_words(rt, &night, words, source) {
-        Ok(end) => Ok(end?),
-        Err(fault) => {
-            remove_unused_record(rt, made);
-            Err(fault)
-        }
-    }
+    let night = &night;
+    let mut run = SystemRun {
+        rt,
+        night,
+        words,
+        source,
+    };
+    Ok(run_night(&mut run)??)
 }
 
-fn is_missing(rt: &HostRuntime, name: &str) -> bool {
-    match symlink_metadata(rt, name) {
-        Ok(_) => false,
-        Err(error) => error.kind() == ErrorKind::NotFound,
+// A run that plays a live night on this machine. It does not tell its steps.
+#[derive(Clone, Copy)]
+struct SystemRun<'r, 'n, 'w> {
+    rt: &'r HostRuntime,
+    night: &'n Night,
+    words: LiveWords<'w>,
+    source: Identity,
+}
+
+impl NightRun for SystemRun<'_, '_, '_> {
+    type End = Result<(), Failure>;
+
+    type Fault = JobFault;
+
+    ghost tells = { λ _. ⊥ };
+
+    ghost steps = { λ _. [] };
+
+    fn is_record_missing(&mut self) -> bool {
+        let Some(name) = self.words.record_file else {
+            return false;
+        };
+        symlink_metadata(self.rt, name).is_err_and(|error| error.kind() == ErrorKind::NotFound)
+    }
+
+    fn play(&mut self) -> RunEnd {
+        play_words(self.rt, self.night, self.words, self.source)
+    }
+
+    fn remove_unused_record(&mut self, was_missing: bool) {
+        let made = self.words.record_file.filter(|_| was_missing);
+        remove_unused_record(self.rt, made);
     }
 }
 

@@ -9,8 +9,9 @@ use cmd_live::{Ending, MainWatch};
 use devices::LinkFault;
 use live_machine::Came;
 use night_lines::{MainNight, Place, led_help_line, led_reminder_line, missing_line};
-use night_record::{LineFront, NightLines, RecordHead, input_has_ended, kept_line, main_lines};
-use remarks::{JobFault, Refusal};
+use night_opening::lines_to_follow;
+use night_record::{LineFront, NightLines, RecordHead, input_has_ended, kept_line};
+use remarks::JobFault;
 use std::time::{Duration, Instant};
 use system_devices::{AppendedLines, are_lines_there};
 
@@ -48,19 +49,17 @@ impl<'w> MainRecord<'w> {
         let night = head_of(rt, bill)?;
         let opened = now(rt)?;
         let found = record_lines(rt, words.file, words.patience.into())?;
-        match main_lines(&night, found) {
-            Ok((head, lines)) => Ok(MainRecord {
-                words,
-                head,
-                lines,
-                last: opened,
-                has_begun: false,
-                typed: NightLines::new(),
-                input_ended: false,
-                ending: Ending::Silent,
-            }),
-            Err(unfit) => Err(JobFault::Record(Refusal::of_unfit_main(&unfit, &night))),
-        }
+        let (head, lines) = lines_to_follow(&night, found)?;
+        Ok(MainRecord {
+            words,
+            head,
+            lines,
+            last: opened,
+            has_begun: false,
+            typed: NightLines::new(),
+            input_ended: false,
+            ending: Ending::Silent,
+        })
     }
 
     // Whether its name still leads to the record, and that has all lines that were given.

@@ -5,9 +5,9 @@ use crate::opening::head_of;
 use crate::reading::{HEAD_PATIENCE, record_lines};
 use cmd_live::PlayedRecord;
 use devices::LinkFault;
-use night_record::{LineFront, NightOpening, own_lines};
-use remarks::{JobFault, Refusal, of_record};
-use std::io::ErrorKind;
+use night_opening::{lines_to_take_up, opening_behind};
+use night_record::{LineFront, NightOpening};
+use remarks::{JobFault, of_record};
 use std::thread::sleep;
 use std::time::Duration;
 use system_devices::{AppendedLines, RecordFault, RecordFile, are_lines_there};
@@ -37,10 +37,7 @@ impl<'a> OwnRecord<'a> {
         name: &'a str,
     ) -> Result<Self, JobFault> {
         let night = head_of(rt, bill)?;
-        let lines = match own_lines(&night, record_lines(rt, name, HEAD_PATIENCE)?) {
-            Ok(lines) => lines,
-            Err(unfit) => return Err(JobFault::Record(Refusal::of_unfit(&unfit, &night))),
-        };
+        let lines = lines_to_take_up(&night, record_lines(rt, name, HEAD_PATIENCE)?)?;
         let file = RecordFile::watch(rt, name).map_err(|fault| of_record(name, fault))?;
         Ok(OwnRecord {
             rt,
@@ -59,11 +56,8 @@ impl<'a> OwnRecord<'a> {
     pub fn into_file(self) -> Result<(RecordFile, NightOpening), JobFault> {
         let is_there = are_lines_there(self.rt, self.name, &self.lines);
         let given = self.lines.bytes_given();
-        let gone = RecordFault::File(ErrorKind::NotFound);
-        match NightOpening::behind_played(given, self.fault, is_there, gone) {
-            Ok(opening) => Ok((self.file, opening)),
-            Err(fault) => Err(of_record(self.name, fault)),
-        }
+        let opening = opening_behind(self.name, given, self.fault, is_there)?;
+        Ok((self.file, opening))
     }
 
     fn fail<T>(&mut self, fault: RecordFault) -> Result<T, LinkFault> {

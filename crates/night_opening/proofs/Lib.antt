@@ -1,3 +1,4 @@
 pub mod Fitting
+pub mod MachineNames
 pub mod RecordLines
 pub mod Starting
