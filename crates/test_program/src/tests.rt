@@ -1,7 +1,9 @@
 mod cues;
 mod explain;
 mod faults;
+mod jobs;
 mod live;
+mod openings;
 mod play;
 mod rehearsing;
 mod runs;

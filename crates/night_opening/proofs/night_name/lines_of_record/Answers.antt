@@ -5,3 +5,16 @@ use Rattle.night_opening.specs.LiveNames.{looks_into}
 use Rattle.night_opening.proofs.night_name.lines_of_record.Goals as goal
 use Rattle.night_opening.proofs.night_name.lines_of_record.Goals.{then-words, else-words}
 
+pub returns-clause-lines : goal.returns-clause-lines
+returns-clause-lines g c =
+    let into : looks_into c.args.words.now ≡ true
+    = ap₂ (λ a b. a && is_some b) c.if-not-words.false c.in_ok-file.was in
+    let waits : c.if-words.first_lines
+        ≡ (if c.args.words.now.is_spare then c.args.patience else 0)
+    = elim c.if-words.branch [
+      | then-words w ↦ w.first_lines-is ∙ sym (ap (λ b. if b then c.args.patience else 0) w.if-words)
+      | else-words w ↦ same
+    ] in
+    rw into (true, option_map (λ lines. lines.items) c.first_lines.result,
+      λ told. grind (arith, common_steps, c.first_lines.ensures.step told,
+        c.if-not-is_file.ensures.step (c.first_lines.ensures.told told), waits), refl)
