@@ -27,7 +27,7 @@ pub fn of_lock(fault: LockFault) -> Failure
 
 /// A device is not had.
 pub fn of_missing(fault: DeviceFault) -> Failure
-    ensures { IsDeviceFailure fault.entry result }
+    ensures { IsDeviceFailure fault result }
 {
     match fault {
         DeviceFault::Device(name, kind) => Failure::of_device(name, kind),
@@ -37,7 +37,7 @@ pub fn of_missing(fault: DeviceFault) -> Failure
 
 /// No record is kept in the file of this name.
 pub fn of_record(name: &str, fault: RecordFault) -> JobFault
-    ensures { IsRecordFault name.now fault.entry result }
+    ensures { IsRecordFault name.now fault result }
 {
     match fault {
         RecordFault::NoFile => JobFault::Record(Refusal::no_record()),

@@ -12,6 +12,7 @@
 
 mod card;
 mod device;
+mod ended_run;
 mod failure;
 mod job_end;
 mod listening;
@@ -19,13 +20,13 @@ mod misfit;
 mod name;
 mod refusal;
 mod remark;
-mod run_end;
 mod target;
 mod text_line;
 mod weight;
 
 pub use card::{DownCards, of_card, of_route};
 pub use device::{no_lock, of_lock, of_missing, of_record};
+pub use ended_run::{night_end, run_end};
 pub use failure::{Failure, JobFault, LostPacket};
 pub use job_end::{JobEnd, tell_text};
 pub use listening::tell_listening;
@@ -35,7 +36,6 @@ pub use refusal::{Refusal, RefusalLine};
 pub use remark::{
     Remark, join, of_device, of_seeming, plain, push_shown, refused_line, seeming_line,
 };
-pub use run_end::{night_end, run_end};
 pub use target::of_target;
 pub use text_line::{of_line, of_setup, of_show};
 pub use weight::{of_weight, strict_end};
