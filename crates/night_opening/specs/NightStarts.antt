@@ -1,7 +1,7 @@
 -- What a night tells at its start, by its words, the text of its show and its network.
 use Rattle.std.specs.Prelude.{◌≡◌, ◌⊎◌, ℕ, true, false, List, [], Option, Some, None, option_map}
 use Rattle.std.specs.Option.{is_some}
-use Rattle.std.specs.Map as map
+use Rattle.std.specs.FinMap as map
 use Rattle.arrayvec.specs.declared.array_vec.ArrayVec.{ArrayVec}
 use Rattle.cmd_explain.specs.Encoding.{likely_kind}
 use Rattle.cmd_explain.specs.Weights.{IsWeightOf}

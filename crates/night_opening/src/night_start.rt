@@ -140,7 +140,7 @@ fn shown_texts(night: &NightAtStart<'_>, loaded: &Loaded) -> ShownTexts
 }
 
 fn night_start<'a>(
-    night: &NightAtStart<'a>,
+    night: &'a NightAtStart<'_>,
     known: &KnownShow,
     found: &'a FoundNetwork,
     shown: &'a ShownTexts,
@@ -211,7 +211,7 @@ fn record_name(recording: &Option<Recording<'_>>) -> NameText
 }
 
 // Where the night is recorded, under this name.
-fn shown_record<'a>(recording: &Option<Recording<'a>>, name: &'a str) -> Option<Recording<'a>>
+fn shown_record<'a>(recording: &Option<Recording<'_>>, name: &'a str) -> Option<Recording<'a>>
     requires name { name.now ≡ spec.record_name recording.now }
     requires room { length name.now ≤ 200 }
     ensures room { IfSome result (λ one. length one.file.now ≤ 256) }
@@ -220,7 +220,9 @@ fn shown_record<'a>(recording: &Option<Recording<'a>>, name: &'a str) -> Option<
     match recording {
         Some(recording) => Some(Recording {
             file: name,
-            ..*recording
+            resumes: recording.resumes,
+            place: recording.place,
+            is_cut: recording.is_cut,
         }),
         None => None,
     }
@@ -238,7 +240,7 @@ fn main_name(main: &Option<MainNight<'_>>) -> NameText
 }
 
 // The main that the night follows, under this name.
-fn shown_main<'a>(main: &Option<MainNight<'a>>, name: &'a str) -> Option<MainNight<'a>>
+fn shown_main<'a>(main: &Option<MainNight<'_>>, name: &'a str) -> Option<MainNight<'a>>
     requires name { name.now ≡ spec.main_name main.now }
     requires room { length name.now ≤ 200 }
     ensures room { IfSome result (λ one. length one.file.now ≤ 256) }
@@ -247,7 +249,9 @@ fn shown_main<'a>(main: &Option<MainNight<'a>>, name: &'a str) -> Option<MainNig
     match main {
         Some(main) => Some(MainNight {
             file: name,
-            ..*main
+            cid: main.cid,
+            priority: main.priority,
+            place: main.place,
         }),
         None => None,
     }
