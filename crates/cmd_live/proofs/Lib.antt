@@ -4,6 +4,5 @@ pub mod Carrying
 pub mod Living
 pub mod TakingUp
 pub mod Leading
-pub mod Standing
 pub mod Followings
 pub mod FollowingOn

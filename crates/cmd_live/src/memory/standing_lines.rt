@@ -1,5 +1,4 @@
-ghost use Rattle.std.specs.Prelude.{◌≡◌, ◌≤◌, ◌+◌, ◌∷◌, [], length, false, min, IfSome, IsNone};
-ghost use Rattle.cmd_live.specs.Kept.{standing_lines};
+ghost use Rattle.std.specs.Prelude.{◌≡◌, ◌≤◌, ◌+◌, ◌∷◌, [], length, false, min, take, IfSome, IsNone};
 
 use super::kept::copy;
 use night_record::LineFront;
@@ -32,8 +31,10 @@ impl<'a> StandingLines<'a> {
     /// The next line, where one stood there.
     pub fn next_line(&mut self) -> Option<LineFront>
         ensures line { IfSome result (λ line.
-            standing_lines self.old ≡ line ∷ standing_lines self.new) }
-        ensures none { IsNone result → (self.new ≡ self.old) × (standing_lines self.new ≡ []) }
+            take self.old.standing self.old.lines.now
+            ≡ line ∷ take self.new.standing self.new.lines.now) }
+        ensures none { IsNone result → (self.new ≡ self.old)
+            × (take self.new.standing self.new.lines.now ≡ []) }
     {
         if self.standing == 0 {
             return None;
@@ -49,7 +50,7 @@ impl<'a> StandingLines<'a> {
         ensures more { self.new.standing
             ≡ min (self.old.standing + self.old.step) (length self.old.lines.now) }
         ensures same { (self.new.lines.now ≡ self.old.lines.now) × (self.new.step ≡ self.old.step) }
-        ensures none { result ≡ false → standing_lines self.new ≡ [] }
+        ensures none { result ≡ false → take self.new.standing self.new.lines.now ≡ [] }
     {
         self.standing = self
             .standing
@@ -62,7 +63,7 @@ impl<'a> StandingLines<'a> {
     pub fn look_at_all(&mut self) -> bool
         ensures all { self.new.standing ≡ length self.old.lines.now }
         ensures same { (self.new.lines.now ≡ self.old.lines.now) × (self.new.step ≡ self.old.step) }
-        ensures none { result ≡ false → standing_lines self.new ≡ [] }
+        ensures none { result ≡ false → take self.new.standing self.new.lines.now ≡ [] }
     {
         self.standing = self.lines.len();
         self.standing > 0
