@@ -2,3 +2,4 @@ pub mod Fitting
 pub mod MachineNames
 pub mod RecordLines
 pub mod Starting
+pub mod SuitableShows

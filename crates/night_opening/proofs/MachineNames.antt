@@ -1,5 +1,5 @@
 -- The name of who sends on a machine is ASCII.
-use Rattle.std.proofs.Common.{◌≡◌, ◌<◌, ℕ, zero, suc, Bool, true, false, List, [], ◌∷◌, arith}
+use Rattle.std.proofs.Common.{◌≡◌, ◌<◌, ℕ, zero, suc, Bool, true, false, List, [], ◌∷◌, arith, refl}
 use Rattle.std.specs.Char.{is_ascii}
 use Rattle.std.specs.List.{filter, list_all}
 use Rattle.std.specs.Prelude.{codes, take}
@@ -20,11 +20,12 @@ all_ascii (b ∷ bs) all = cons_ascii b bs (grind (arith, common_steps))
 
 seen_ascii : (bs : List ℕ) → IsAscii (filter is_graphic bs)
 seen_ascii [] = IsAscii-nil
-seen_ascii (b ∷ bs) = by (is_graphic b) refl
+seen_ascii (b ∷ bs) = by (seen_ascii bs) (is_graphic b) refl
   where
-    by : (seen : Bool) → is_graphic b ≡ seen → IsAscii (filter is_graphic (b ∷ bs))
-    by true is = rw is (cons_ascii b _ (grind (arith, common_steps)) (seen_ascii bs))
-    by false is = rw is (seen_ascii bs)
+    by : IsAscii (filter is_graphic bs) → (seen : Bool) → is_graphic b ≡ seen
+        → IsAscii (filter is_graphic (b ∷ bs))
+    by rest true is = rw is (cons_ascii b _ (grind (arith, common_steps)) rest)
+    by rest false is = rw is rest
 
 behind_ascii : (seen : List ℕ) → IsAscii seen → IsAscii (behind_program seen)
 behind_ascii [] ascii = all_ascii (codes "cueplayer") refl

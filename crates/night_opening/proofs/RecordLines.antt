@@ -5,8 +5,8 @@ use Rattle.std.specs.Prelude.{◌==◌, if◌then◌else◌, fold}
 use Rattle.ascii_text.specs.Lines.{Cut, cut_of, no_bytes, with_byte}
 
 one_by : (is_end : Bool) (cut : Cut) (byte : ℕ)
-    → length (if is_end then record { lines = cut.rest ∷ cut.lines; rest = [] }
-    else record { lines = cut.lines; rest = cut.rest ++ byte ∷ [] }).lines
+    → length (if◌then◌else◌ {A = Cut} is_end (record { lines = cut.rest ∷ cut.lines; rest = [] })
+    (record { lines = cut.lines; rest = cut.rest ++ byte ∷ [] })).lines
     ≤ length cut.lines + 1
 one_by true cut byte = omega arith
 one_by false cut byte = omega arith
@@ -21,4 +21,6 @@ from_cut cut (byte ∷ bytes) =
     omega (arith, one, more)
 
 pub few_lines : (bytes : List ℕ) → length (cut_of bytes).lines ≤ length bytes
-few_lines bytes = from_cut no_bytes bytes
+few_lines bytes =
+    let few : length (cut_of bytes).lines ≤ 0 + length bytes = from_cut no_bytes bytes in
+    omega (arith, few)

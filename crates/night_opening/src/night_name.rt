@@ -1,6 +1,7 @@
 ghost use Rattle.std.specs.Prelude.{◌≡◌, ℕ, Bool, List, Option, [], ◌∷◌, ◌++◌, IfOk, option_map};
 ghost use Rattle.night_opening.specs.LiveNames.{IsNameBy, IsRecordedName, LookStep, asked_file};
 ghost use Rattle.cmd_words.specs.Source.{name_on};
+ghost use Rattle.std.specs.Str.{IsUtf8};
 ghost use Rattle.night_opening.specs.LiveNames.{asked_head, look_steps, looks_into, seen_lines};
 
 use crate::playbill::LiveWords;
@@ -73,7 +74,17 @@ fn machine_name(alloc: Global, machine: &[u8]) -> Result<Name, AllocError>
     ensures { IfOk result (λ name. name ≡ name_on machine.now) }
 {
     let name = name_on(alloc, machine)?;
-    Name::new(alloc, str::from_utf8(name.as_slice()).unwrap_or_default())
+    Name::new(alloc, text_of(name.as_slice()))
+}
+
+// These bytes, where they are text.
+fn text_of(bytes: &[u8]) -> &str
+    ensures { IsUtf8 bytes.now → result.now ≡ bytes.now }
+{
+    match str::from_utf8(bytes) {
+        Ok(text) => text,
+        Err(_) => "",
+    }
 }
 
 // The name in the head of the record that is to go on, where it has one: whether it suits the night

@@ -1,6 +1,7 @@
-use Rattle.std.proofs.Common.{◌≡◌, true, option_map}
-use Rattle.std.proofs.lemmas.Grind.{common_steps}
+use Rattle.std.proofs.Common.{◌≡◌, ◌∙◌, ◌&&◌, true, ap, ap₂, arith, option_map, refl, sym}
 use Rattle.std.specs.Option.{is_some}
+use Rattle.std.specs.Prelude.{if◌then◌else◌}
+use Rattle.std.proofs.lemmas.Grind.{common_steps}
 use Rattle.night_opening.specs.LiveNames.{looks_into}
 use Rattle.night_opening.proofs.night_name.lines_of_record.Goals as goal
 use Rattle.night_opening.proofs.night_name.lines_of_record.Goals.{then-words, else-words}
@@ -12,8 +13,10 @@ returns-clause-lines g c =
     let waits : c.if-words.first_lines
         ≡ (if c.args.words.now.is_spare then c.args.patience else 0)
     = elim c.if-words.branch [
-      | then-words w ↦ w.first_lines-is ∙ sym (ap (λ b. if b then c.args.patience else 0) w.if-words)
-      | else-words w ↦ same
+      | then-words w ↦ w.first_lines-is
+          ∙ sym (ap (λ b. if b then c.args.patience else 0) w.if-words.true)
+      | else-words w ↦ w.first_lines-is
+          ∙ sym (ap (λ b. if b then c.args.patience else 0) w.if-words.false)
     ] in
     rw into (true, option_map (λ lines. lines.items) c.first_lines.result,
       λ told. grind (arith, common_steps, c.first_lines.ensures.step told,
