@@ -28,7 +28,7 @@ check_fails show run.Memory fails = fails
 
 -- of which nothing is printed
 pub prints_nothing : (show : List ℕ) (fault : RunFault) (IsText : List ℕ → Type 0)
-    (tape : Tape ℕ) → ReadFails show fault → PrintsText (Err {Unit} fault) IsText tape tape
+    (tape : Tape ℕ) → ReadFails show fault → PrintsText {X = Unit} (Err fault) IsText tape tape
 prints_nothing show (run.Show fault) IsText tape fails = refl
 prints_nothing show run.Memory IsText tape fails = refl
 
