@@ -79,7 +79,6 @@ fn check_and_tell<W: JobOutput, E: Output>(
 }
 
 // How much of a show may mean something else than is played.
-#[tactic(auto, using(crate::proofs::Checks::weight_is))]
 fn weight_of(alloc: Global, show: &[u8]) -> Result<Weight, RunFault>
     requires { length show.now < 2 ^ 32 }
     ensures weight { IfOk result (λ weight. OfItsShow show.now (λ s.
