@@ -16,10 +16,10 @@ name_rule = codes "--name has at most 63 bytes, none of them zero"
 -- its name
 abbrev pub IsSourceOf : Night → Result Identity JobFault → Type 0
 IsSourceOf night (Ok source) = source ≡ record {
-      cid = night.cid;
-      name = source_name night.name;
-      priority = night.priority;
-    }
+  cid = night.cid;
+  name = source_name night.name;
+  priority = night.priority;
+}
 IsSourceOf night (Err (Words remark)) =
     (IsSourceName (source_name night.name) → ⊥) × (remark.items ≡ remark_of (name_rule ∷ []))
 IsSourceOf night (Err fault) = ⊥

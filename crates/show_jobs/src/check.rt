@@ -28,13 +28,7 @@ use std::alloc::Global;
 ///
 /// `Run` with the fault of [`check`], and what is told of it; `Doubts` where a strict check has
 /// some.
-#[tactic(auto, using(
-    crate::proofs::Checks::check_fails,
-    crate::proofs::Checks::prints_nothing,
-    crate::proofs::Checks::strict_end,
-    crate::proofs::Checks::strict_run,
-    crate::proofs::Checks::strict_remark,
-))]
+#[tactic(auto, using(crate::proofs::Checks::check_fails, crate::proofs::Checks::prints_nothing, crate::proofs::Checks::strict_end, crate::proofs::Checks::strict_run, crate::proofs::Checks::strict_remark,))]
 pub fn check_show<W: JobOutput, E: Output>(
     alloc: Global,
     show: &[u8],
@@ -85,7 +79,6 @@ fn check_and_tell<W: JobOutput, E: Output>(
 }
 
 // How much of a show may mean something else than is played.
-#[tactic(auto, using(crate::proofs::Checks::weight_is))]
 fn weight_of(alloc: Global, show: &[u8]) -> Result<Weight, RunFault>
     requires { length show.now < 2 ^ 32 }
     ensures weight { IfOk result (λ weight. OfItsShow show.now (λ s.

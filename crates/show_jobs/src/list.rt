@@ -7,6 +7,8 @@ ghost use Rattle.show_jobs.specs.Lists.{IsCueList};
 
 use cmd_cues::{cues, cues_json};
 use cmd_explain::explain;
+use cmd_faults::RunFault;
+use devices::Output;
 use job_devices::JobOutput;
 use remarks::{Failure, run_end};
 use std::alloc::Global;
@@ -43,10 +45,22 @@ pub fn list_cues<W: JobOutput>(
     ensures reads { ReadsFirst show.now (CheckFails show.now) (run_of result) }
     ensures remark { TellsOf (λ fault. of_run fault show.now (W.reason out.new)) result }
 {
-    let answer = if is_json {
+    let answer = print_list(alloc, show, is_json, out);
+    run_end(answer, show, out.failure())
+}
+
+fn print_list<W: Output>(
+    alloc: Global,
+    show: &[u8],
+    is_json: bool,
+    out: &mut W,
+) -> Result<(), RunFault>
+    ensures prints { PrintsTo W.tells W.tape out.old out.new result (IsCueList is_json show.now) }
+    ensures reads { ReadsFirst show.now (CheckFails show.now) result }
+{
+    if is_json {
         cues_json(alloc, show, out)
     } else {
         cues(alloc, show, out)
-    };
-    run_end(answer, show, out.failure())
+    }
 }

@@ -20,12 +20,6 @@ pub fn tell_seeming<E: Output>(alloc: Global, file: &[u8], err: &mut E)
     }
 }
 
-#[tactic(auto, using(
-    crate::proofs::Seemings::seems_so,
-    crate::proofs::Seemings::is_text,
-    crate::proofs::Seemings::has_cue,
-    crate::proofs::Seemings::is_unread,
-))]
 fn seeming(alloc: Global, file: &[u8]) -> Option<&'static str>
     ensures { IsSeeming file.now (option_map (λ what. what.now) result) }
 {

@@ -8,7 +8,7 @@ use Rattle.stream_jobs.specs.Rehearsals.{HandsOnAll}
 
 -- as it was printed
 pub fails_alike : (fault : RunFault) (HandedOn : Type 0) (Are : List (List ℕ) → Type 0)
-    (before after : Tape ℕ) → PrintsAll (Err {Unit} fault) Are before after
+    (before after : Tape ℕ) → PrintsAll {X = Unit} (Err fault) Are before after
     → HandsOnAll (Err fault) HandedOn Are before after
 fails_alike (run.Show fault) HandedOn Are before after prints = prints
 fails_alike run.NoCue HandedOn Are before after prints = prints

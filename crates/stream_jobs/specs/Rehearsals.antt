@@ -17,5 +17,5 @@ abbrev pub HandsOnAll : Result Unit RunFault → Type 0 → (List (List ℕ) →
     → Type 0
 HandsOnAll (Ok done) HandedOn Are before after = HandedOn × PrintsAll (Ok done) Are before after
 HandsOnAll (Err run.Device) HandedOn Are before after =
-    PrintsAll (Err {Unit} run.Device) Are before after ⊎ FailsToHandOn Are before after
-HandsOnAll (Err fault) HandedOn Are before after = PrintsAll (Err {Unit} fault) Are before after
+    PrintsAll {X = Unit} (Err run.Device) Are before after ⊎ FailsToHandOn Are before after
+HandsOnAll (Err fault) HandedOn Are before after = PrintsAll {X = Unit} (Err fault) Are before after

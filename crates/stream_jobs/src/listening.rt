@@ -40,8 +40,8 @@ pub fn listen_at<D: JobSource, W: JobOutput, E: Output>(
     out: &mut W,
     err: &mut E,
 ) -> Result<(), Failure>
-    requires from_1 { 1 ≤ place.entry.universe }
-    requires to_63999 { place.entry.universe ≤ 63999 }
+    requires from_1 { 1 ≤ place.universe }
+    requires to_63999 { place.universe ≤ 63999 }
     ensures told_source { D.tells source.new → D.tells source.old }
     ensures told_output { W.tells out.new → W.tells out.old }
     ensures text { let place = place.entry in D.tells source.new → W.tells out.new

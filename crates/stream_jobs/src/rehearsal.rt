@@ -37,7 +37,6 @@ pub fn rehearse_show<F: Fader, W: JobOutput>(
     Ok(())
 }
 
-#[tactic(auto, using(crate::proofs::Handing::fails_alike))]
 fn print_all<F: Fader, W: JobOutput>(
     alloc: Global,
     show: &[u8],
