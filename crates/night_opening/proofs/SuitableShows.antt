@@ -1,5 +1,5 @@
 -- A show that was read, and does not suit the targets of its night.
-use Rattle.std.proofs.Common.{◌≡◌, ℕ, Bool, true, false, List, Ok, Err, Result, ap, refl, subst, sym}
+use Rattle.std.proofs.Common.{◌≡◌, ℕ, Bool, true, false, List, Ok, Err, Result, ap, refl, subst, sym, ◌∙◌}
 use Rattle.std.proofs.lemmas.Bool.{true≢false}
 use Rattle.std.specs.Option.{is_some}
 use Rattle.std.specs.Result.{is_ok}
@@ -18,18 +18,18 @@ not_sole : (is_sole : Bool) (fault : JobFault)
 not_sole true fault sole = absurd (true≢false (sym (ap is_ok (sole refl))))
 not_sole false fault sole = refl
 
-suits_not : (name : List ℕ) (night : Night) (answer : Result (List ℕ) Unread) (text : List ℕ)
-    (fault : JobFault) → IsTextOf name answer (Ok text) → SuitsNight night text (refused fault)
-    → IsSuitable night answer (Err fault)
-suits_not name night (Ok show) text fault same fits =
-    subst (λ bytes. SuitsNight night bytes (refused fault)) same fits
-suits_not name night (Err reason) text fault same fits = absurd same
+suits_not : (name : List ℕ) (night : Night) (answer : Result (List ℕ) Unread)
+    (text shown : List ℕ) (fault : JobFault) → shown ≡ text → IsTextOf name answer (Ok text)
+    → SuitsNight night shown (refused fault) → IsSuitable night answer (Err fault)
+suits_not name night (Ok show) text shown fault is same fits =
+    subst (λ bytes. SuitsNight night bytes (refused fault)) (is ∙ same) fits
+suits_not name night (Err reason) text shown fault is same fits = absurd same
 
 pub is_refused : (name : List ℕ) (night : Night) (answer : Result (List ℕ) Unread)
-    (text : List ℕ) (fault : JobFault) → IsTextOf name answer (Ok text)
+    (text shown : List ℕ) (fault : JobFault) → shown ≡ text → IsTextOf name answer (Ok text)
     → (is_some (sole_target night.targets) ≡ true → refused fault ≡ Ok tt)
-    → (is_some (sole_target night.targets) ≡ false → IsFit night text (refused fault))
+    → (is_some (sole_target night.targets) ≡ false → IsFit night shown (refused fault))
     → IsSuitable night answer (Err fault)
-is_refused name night answer text fault same sole each =
+is_refused name night answer text shown fault is same sole each =
     let several = not_sole (is_some (sole_target night.targets)) fault sole in
-    suits_not name night answer text fault same (several, each several)
+    suits_not name night answer text shown fault is same (several, each several)
