@@ -33,3 +33,10 @@ pub is_refused : (name : List ℕ) (night : Night) (answer : Result (List ℕ) U
 is_refused name night answer text shown fault is same sole each =
     let several = not_sole (is_some (sole_target night.targets)) fault sole in
     suits_not name night answer text shown fault is same (several, each several)
+
+pub is_suitable : (name : List ℕ) (night : Night) (answer : Result (List ℕ) Unread)
+    (text shown : List ℕ) → shown ≡ text → IsTextOf name answer (Ok text)
+    → SuitsNight night shown (Ok tt) → IsSuitable night answer (Ok text)
+is_suitable name night (Ok show) text shown is same fits =
+    (ap Ok (sym same), subst (λ bytes. SuitsNight night bytes (Ok tt)) is fits)
+is_suitable name night (Err reason) text shown is same fits = absurd same

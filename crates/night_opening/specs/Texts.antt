@@ -1,5 +1,5 @@
 -- How much of a show or a script is read, and what is told where it cannot be.
-use Rattle.std.specs.Prelude.{◌≡◌, ◌⊎◌, ℕ, List, [], ◌∷◌, codes, is_some, false, bytes_eq}
+use Rattle.std.specs.Prelude.{◌≡◌, ℕ, List, [], codes, is_some, false, bytes_eq}
 use Rattle.std.specs.Prelude.{Option, Some, None, Result, Ok, Err, Vec, if◌then◌else◌}
 use Rattle.byte_reading.specs.declared.reading.Unread.{Unread}
 use Rattle.byte_reading.specs.declared.reading.Unread.TheVariants.{Device, Memory}

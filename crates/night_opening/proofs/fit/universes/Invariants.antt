@@ -1,4 +1,4 @@
-use Rattle.std.proofs.Common.{◌≡◌, true, ◌+◌, map, nat_le, take}
+use Rattle.std.proofs.Common.{◌≡◌, true, take}
 use Rattle.night_opening.specs.Fits.{have_numbers, universes}
 use Rattle.night_opening.proofs.fit.universes.Given as goal
 

@@ -1,7 +1,7 @@
 use Rattle.std.proofs.Common.{◌∷◌, ◌++◌, ◌∙◌, [], Some, ap}
 use Rattle.std.proofs.lemmas.Result.{err_from_is_err_and}
 use Rattle.night_opening.specs.Texts.{text_step}
-use Rattle.night_opening.proofs.SuitableShows.{is_refused}
+use Rattle.night_opening.proofs.SuitableShows.{is_refused, is_suitable}
 use Rattle.night_opening.proofs.text.suitable_show.Goals as goal
 
 pub returns-in_err-check_targets-clause-reads : goal.returns-in_err-check_targets-clause-reads
@@ -18,3 +18,14 @@ returns-in_err-check_targets-clause-reads g c =
           ∙ ap (λ name. g.S.TextSource.steps c.args.source.now
           ++ text_step (Some name) 1048577 reads.0 ∷ []) c.as_str.ensures,
     ))
+
+pub returns-clause-reads : goal.returns-clause-reads
+returns-clause-reads g c =
+    let reads = c.in_ok-text.ensures.reads in (
+      reads.0,
+      is_suitable _ c.args.night.now reads.0 _ _ c.as_slice.ensures.value reads.1
+          c.in_ok-check_targets.ensures.each,
+      λ told. reads.2 told
+          ∙ ap (λ name. g.S.TextSource.steps c.args.source.now
+          ++ text_step (Some name) 1048577 reads.0 ∷ []) c.as_str.ensures,
+    )
