@@ -8,9 +8,7 @@ use cmd_faults::RunFault;
 use cmd_words::{Job, Name};
 use fade::StepFader;
 use remarks::{Failure, JobFault};
-use show_jobs::{
-    CueLook, CueSlots, check_show, explain_show, list_cues, look_at, show_slots,
-};
+use show_jobs::{CueLook, CueSlots, check_show, explain_show, list_cues, look_at, show_slots};
 use std::io::{BufWriter, Stderr, Stdout};
 use stream_jobs::{ListenPlace, listen_at, rehearse_show, watch_lines};
 use system_devices::{ReceivingSocket, SocketFault, SystemInput, SystemOutput};

@@ -9,7 +9,7 @@ use cmd_play::{Setup, play};
 use cmd_words::Night;
 use devices::Output;
 use fade::StepFader;
-use job_devices::{JobOutput, PlaySystem, play_night};
+use job_devices::{JobOutput, PlaySystem, play_from_lines};
 use remarks::{Failure, JobFault, LostPacket, no_lock, of_lock, tell_text};
 use sacn_source::Identity;
 use show_jobs::{identity, tell_seeming};
@@ -23,7 +23,7 @@ pub fn play_lines(rt: &HostRuntime, night: &Night) -> Result<(), JobFault>
     requires { night.now.priority ≤ 200 }
 {
     let source = identity(night)?;
-    play_night(&mut LineNight { rt, night }, source)
+    play_from_lines(&mut LineNight { rt, night }, source)
 }
 
 // What a night that is played from lines has of the machine. It does not tell its steps.

@@ -8,14 +8,13 @@ use crate::system_night::SystemNight;
 use cmd_faults::RunFault;
 use cmd_words::Night;
 use live_machine::{NightKind, NightRun, play_night, run_night};
+pub use night_opening::{LiveWords, MainWords, Playbill};
 use remarks::{Failure, JobFault, Refusal};
 use sacn_source::Identity;
 use show_jobs::identity;
 use std::fs::symlink_metadata;
 use std::io::ErrorKind;
 use system_devices::remove_unused_record;
-
-pub use night_opening::{LiveWords, MainWords, Playbill};
 
 /// How a night ended, unless it did not begin.
 type RunEnd = Result<Result<(), Failure>, JobFault>;

@@ -127,7 +127,7 @@ pub trait PlaySystem {
 /// # Errors
 ///
 /// Why that one failed.
-pub fn play_night<S: PlaySystem>(system: &mut S, source: S::Source) -> Result<(), S::Fault>
+pub fn play_from_lines<S: PlaySystem>(system: &mut S, source: S::Source) -> Result<(), S::Fault>
     ensures told { S.tells system.new → S.tells system.old }
     ensures steps { S.tells system.new → (steps : List StepOf) × IsPlay steps (is_err result)
         × (S.steps system.new ≡ S.steps system.old ++ steps) }

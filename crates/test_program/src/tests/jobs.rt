@@ -1,5 +1,7 @@
 use devices::memory::{MemoryFeed, MemoryOutput};
-use job_devices::{LockAnswer, MemoryJobOutput, MemoryPlay, PlayAnswers, PlayStep, play_night};
+use job_devices::{
+    LockAnswer, MemoryJobOutput, MemoryPlay, PlayAnswers, PlayStep, play_from_lines,
+};
 use memory_steps::MemorySteps;
 use show_jobs::{check_show, list_cues};
 use std::alloc::Global;
@@ -56,6 +58,6 @@ fn a_night_from_lines_takes_its_steps_in_order(rt: HostRuntime) {
         is_played: true,
     };
     let mut system: MemoryPlay = MemorySteps::new(rt.alloc(), answers);
-    assert!(rt; play_night(&mut system, ()).is_ok());
+    assert!(rt; play_from_lines(&mut system, ()).is_ok());
     assert!(rt; system.steps.as_slice() == STEPS);
 }

@@ -31,7 +31,11 @@ fn streams(alloc: Global) -> MemoryStreams {
 // Whether these streams were asked for, in this order.
 fn were_asked_for(streams: &MemoryStreams, asked: &[StandardStream]) -> bool {
     let steps = streams.steps.as_slice();
-    steps.len() == asked.len() && steps.iter().zip(asked).all(|(step, one)| step.stream == *one)
+    steps.len() == asked.len()
+        && steps
+            .iter()
+            .zip(asked)
+            .all(|(step, one)| step.stream == *one)
 }
 
 #[test]
@@ -53,7 +57,10 @@ fn a_spare_waits_for_the_head_of_its_record(rt: HostRuntime) {
     };
     let mut look: MemoryLook = MemorySteps::new(rt.alloc(), head);
     let name = live_name(rt.alloc(), &mut look, &WORDS, 1000, b"booth 1");
-    assert!(rt; name.as_ref().is_ok_and(|name| name.as_str() == "cueplayer booth1"));
+    assert!(rt;
+        name.as_ref()
+            .is_ok_and(|name| name.as_str() == "cueplayer booth1")
+    );
     assert!(rt; look.steps.as_slice() == [LookedAt::File, LookedAt::Lines(1000)].as_slice());
 }
 
