@@ -110,9 +110,10 @@ fn listen(rt: &HostRuntime, at: ([u8; 4], u16), universe: u16, count: u32) -> Re
 {
     let mut source = ReceivingSocket::bind(rt, at).map_err(of_socket_fault)?;
     let address = source.address();
+    let host = at.0;
     let place = ListenPlace {
         address: address.as_str(),
-        host: at.0,
+        host,
         universe,
         count,
     };

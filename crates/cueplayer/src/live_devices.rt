@@ -19,6 +19,7 @@ use night_opening::{
 use night_record::NightOpening;
 use remarks::{Failure, JobFault, of_lock, of_missing, of_record, run_end};
 use std::cell::RefCell;
+use std::mem::replace;
 use std::time::Instant;
 use system_devices::{CidLock, Network, Pause, Record, RecordFile, SharedNetwork, TypedInput};
 use targets::TargetLink;
@@ -288,35 +289,14 @@ impl StartSystem for SystemStart<'_, '_, '_, '_> {
     }
 
     fn begin_record(&mut self) -> Result<(), JobFault> {
-        let LiveDevices {
-            file,
-            record,
-            screen,
-            opening,
-            ..
-        } = &mut *self.devices;
-        let mut start = SystemRecord {
-            rt: self.rt,
-            name: self.bill.words.record_file,
-            file,
-            record,
-            screen,
-        };
-        begin_record(&mut start, opening)
+        let devices = &mut *self.devices;
+        let opening = replace(&mut devices.opening, NightOpening::none());
+        begin_record(self, &opening)
     }
 }
 
-// A record's file, where there is one, and what is written to it. It does not tell its steps.
-#[derive(Drop)]
-struct SystemRecord<'d, 'w> {
-    rt: &'d HostRuntime,
-    name: Option<&'w str>,
-    file: &'d mut Option<RecordFile>,
-    record: &'d mut Record,
-    screen: &'d mut Screen,
-}
-
-impl RecordStart for SystemRecord<'_, '_> {
+// It does not tell its steps.
+impl RecordStart for SystemStart<'_, '_, '_, '_> {
     type Fault = JobFault;
 
     ghost tells = { λ _. ⊥ };
@@ -324,16 +304,19 @@ impl RecordStart for SystemRecord<'_, '_> {
     ghost steps = { λ _. [] };
 
     fn keep_bytes(&mut self, length: usize) -> Result<(), JobFault> {
-        let (Some(file), Some(name)) = (self.file.take(), self.name) else {
+        let devices = &mut *self.devices;
+        let (Some(file), Some(name)) = (devices.file.take(), self.bill.words.record_file) else {
             return Ok(());
         };
         let kept = file.keep_lines(self.rt, length);
-        *self.record = kept.map_err(|fault| of_record(name, fault))?;
+        devices.record = kept.map_err(|fault| of_record(name, fault))?;
         Ok(())
     }
 
     fn write(&mut self, lines: &[u8]) {
-        self.record.keep(lines, self.screen.messages());
+        let devices = &mut *self.devices;
+        let messages = devices.screen.messages();
+        devices.record.keep(lines, messages);
     }
 }
 
