@@ -61,7 +61,7 @@ impl PlaySystem for LineNight<'_> {
     }
 
     fn take_cid_lock(&mut self) -> Result<Option<CidLock>, JobFault> {
-        Ok(CidLock::take(self.rt, self.night.cid).map_err(of_lock)?)
+        Ok(CidLock::take(self.rt, self.night.cid).map_err(|fault| of_lock(fault))?)
     }
 
     fn tell_no_lock(&mut self) {

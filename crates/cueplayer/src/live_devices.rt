@@ -235,11 +235,11 @@ impl DeviceSystem for SystemDevices<'_, '_, '_> {
     }
 
     fn open_screen(&mut self) -> Result<Replies, JobFault> {
-        Ok(open_replies(self.rt).map_err(of_missing)?)
+        Ok(open_replies(self.rt).map_err(|fault| of_missing(fault))?)
     }
 
     fn take_cid_lock(&mut self) -> Result<Option<CidLock>, JobFault> {
-        Ok(CidLock::take(self.rt, self.bill.night.cid).map_err(of_lock)?)
+        Ok(CidLock::take(self.rt, self.bill.night.cid).map_err(|fault| of_lock(fault))?)
     }
 
     fn open_network(&mut self) -> Result<Network, JobFault> {

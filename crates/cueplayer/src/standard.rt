@@ -20,8 +20,8 @@ impl<'a> Standard<'a> {
     /// if an allocation failed.
     pub fn open(rt: &'a HostRuntime) -> Result<Self, Failure> {
         let is_told = ask_for_screen(&mut Descriptors { rt })?;
-        let input = TypedInput::open(rt).map_err(of_missing)?;
-        let messages = open_messages(rt, is_told).map_err(of_missing)?;
+        let input = TypedInput::open(rt).map_err(|fault| of_missing(fault))?;
+        let messages = open_messages(rt, is_told).map_err(|fault| of_missing(fault))?;
         Ok(Standard { input, messages })
     }
 }
