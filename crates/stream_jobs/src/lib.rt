@@ -11,7 +11,7 @@
 #![tactic(auto)]
 
 mod listening;
-mod rehearsal;
+mod rehearsed;
 
 pub use listening::{ListenPlace, listen_at, watch_lines};
-pub use rehearsal::rehearse_show;
+pub use rehearsed::rehearse_show;

@@ -2,7 +2,7 @@ use Rattle.std.proofs.Common.{◌∙◌, ap, inr}
 use Rattle.std.proofs.lemmas.Result.{err_from_is_err_and}
 use Rattle.devices.specs.Tape.{with_failure}
 use Rattle.stream_jobs.proofs.Handing.{fails_alike}
-use Rattle.stream_jobs.proofs.rehearsal.print_all.Goals as goal
+use Rattle.stream_jobs.proofs.rehearsed.print_all.Goals as goal
 
 pub returns-in_err-rehearse_text-clause-text : goal.returns-in_err-rehearse_text-clause-text
 returns-in_err-rehearse_text-clause-text g c = λ tells.
