@@ -25,7 +25,8 @@ IsLockFailure lock.Memory failure = Fails run.Memory [] failure
 
 -- a device is not had
 abbrev pub IsDeviceFailure : DeviceFault → Failure → Type 0
-IsDeviceFailure (device.Device name kind) failure = Fails run.Device (of_device name.now kind) failure
+IsDeviceFailure (device.Device name kind) failure =
+    Fails run.Device (of_device name.now kind) failure
 IsDeviceFailure device.Memory failure = Fails run.Memory [] failure
 
 -- what stands in the file of a record that is to begin is not written over

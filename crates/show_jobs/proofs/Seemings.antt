@@ -1,15 +1,14 @@
 -- What a file seems to be, by what was read of it.
-use Rattle.std.proofs.Common.{◌≡◌, ℕ, List, Option, Some, None, arith}
+use Rattle.std.proofs.Common.{◌≡◌, ℕ, List, Some, None}
 use Rattle.std.specs.FinMap as maps
 use Rattle.show.specs.Tables.{Tables}
 use Rattle.show_line.specs.Said.{desk_limits}
-use Rattle.show_reader.specs.Reading.{NothingGrows, text_fault}
+use Rattle.show_reader.specs.Reading.{text_fault}
 use Rattle.show_reader.specs.Shows.{IsShowOf}
 use Rattle.show_reader.specs.Text.{statements_of}
-use Rattle.show_reader.specs.declared.fault.ShowFault.{ShowFault}
 use Rattle.show_reader.proofs.OneShow.{of_its_show}
 use Rattle.cmd_explain.specs.Encoding.{likely_kind}
-use Rattle.show_jobs.specs.Seemings.{IsSeeming, SeemsToBe}
+use Rattle.show_jobs.specs.Seemings.{SeemsToBe}
 
 -- it is no text, and its show has no cue
 pub seems_so : (file what : List ℕ) (s : Tables) → likely_kind file ≡ Some what
@@ -20,19 +19,3 @@ seems_so file what s kind faultless is no_cue = record {
   faultless = faultless;
   no_cue = of_its_show file (λ t. maps.len t.cues ≡ 0) s is no_cue;
 }
-
--- it is nothing of the kind
-pub is_text : (file : List ℕ) → likely_kind file ≡ None → IsSeeming file None
-is_text file none = λ grows what seems. let kind = seems.kind in grind arith
-
--- its show has a cue
-pub has_cue : (file : List ℕ) (s : Tables) → IsShowOf (statements_of desk_limits file) s
-    → (maps.len s.cues ≡ 0 → ⊥) → IsSeeming file None
-has_cue file s is cue = λ grows what seems. cue (seems.no_cue.1 s is)
-
--- its show was not read
-pub is_unread : (file : List ℕ) (fault : ShowFault)
-    → (NothingGrows desk_limits file → text_fault desk_limits file ≡ Some fault)
-    → IsSeeming file None
-is_unread file fault sure = λ grows what seems.
-    let faulty = sure grows in let faultless = seems.faultless in grind arith

@@ -13,7 +13,8 @@ use Rattle.remarks.specs.declared.failure.JobFault.{JobFault}
 use Rattle.show_jobs.specs.Seemings.{TellsSeeming}
 
 -- a check ends as the weight of this show has it
-pub record IsWeighedEnd (text : List ℕ) (show : Tables) (ended : Result Unit JobFault) : Type 0 where
+pub record IsWeighedEnd (text : List ℕ) (show : Tables) (ended : Result Unit JobFault)
+    : Type 0 where
   pub weight : Weight
   pub weighs : IsWeightOf text (lines_read desk_limits text) show weight
   pub end : IsStrictEnd weight ended

@@ -28,7 +28,7 @@ use std::alloc::Global;
 ///
 /// `Run` with the fault of [`check`], and what is told of it; `Doubts` where a strict check has
 /// some.
-#[tactic(auto, using(crate::proofs::Checks::check_fails, crate::proofs::Checks::prints_nothing, crate::proofs::Checks::strict_end, crate::proofs::Checks::strict_run, crate::proofs::Checks::strict_remark,))]
+#[tactic(auto, using(crate::proofs::Checks::strict_end, crate::proofs::Checks::strict_run))]
 pub fn check_show<W: JobOutput, E: Output>(
     alloc: Global,
     show: &[u8],
