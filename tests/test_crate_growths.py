@@ -82,6 +82,18 @@ IN_THE_PROGRAM = {
     "check_targets": "test_refused_growths.RefusedGrowths.test_targets",
     "name_on": "test_refused_growths.RefusedGrowths.test_live",
     "process_in_list": "test_refused_growths.RefusedGrowths.test_record_in_use",
+    "check_show": "test_refused_growths.RefusedGrowths.test_check",
+    "look_at": "test_refused_growths.RefusedGrowths.test_look",
+    "show_slots": "test_refused_growths.RefusedGrowths.test_slots",
+    "explain_show": "test_refused_growths.RefusedGrowths.test_explain",
+    "list_cues": "test_refused_growths.RefusedGrowths.test_cues",
+    "rehearse_show": "test_refused_growths.RefusedGrowths.test_rehearse",
+    "watch_lines": "test_refused_growths.RefusedGrowths.test_watch",
+    "live_name": "test_refused_growths.RefusedGrowths.test_live",
+    "new_night": "test_refused_growths.RefusedGrowths.test_live",
+    "open_night": "test_refused_growths.RefusedGrowths.test_live",
+    "tell_night_start": "test_refused_growths.RefusedGrowths.test_live",
+    "suitable_show": "test_refused_growths.RefusedGrowths.test_targets",
 }
 # Calls that take no memory once something is open: tests of them that ask for as much as one that
 # only opens it.
