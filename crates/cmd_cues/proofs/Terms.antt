@@ -26,7 +26,8 @@ pub use Rattle.show_reader.specs.Meaning.{Is, Silent, after, same_record}
 pub use Rattle.show_reader.specs.Text.{Words, owner_after, owner_below, said_under, statements_of}
 pub use Rattle.cmd_explain.specs.Headings.{begins_with_word, keyword_in}
 pub use Rattle.cmd_explain.specs.Skipped.{words_in}
-pub use Rattle.cmd_explain.proofs.Lines.{FirstRead, all_read, no_line, no_more, one_line, reading_is}
+pub use Rattle.cmd_explain.proofs.Lines.{FirstRead, all_read, no_line, no_more, one_line}
+pub use Rattle.cmd_explain.proofs.Lines.{reading_is}
 pub use Rattle.cmd_cues.specs.declared.label_line.LabelKind.{LabelKind}
 pub use Rattle.cmd_cues.specs.declared.label_line.LabelKind.TheVariants.{Text, Comment}
 pub use Rattle.cmd_cues.specs.declared.label_line.LabelLine.{LabelLine}

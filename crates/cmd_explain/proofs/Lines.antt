@@ -1,7 +1,8 @@
 -- What is made of the lines of a text, one after the other.
 use Rattle.cmd_explain.proofs.Terms.{◌≡◌, ℕ, ◌+◌, ◌≤◌, Bool, true, false, cond, List, [], ◌∷◌}
-use Rattle.cmd_explain.proofs.Terms.{length, reverse, take, refl, sym, ap, subst, ◌∙◌, arith, Option}
-use Rattle.cmd_explain.proofs.Terms.{Some, None, ◌<◌, reverse_onto, length-reverse, reverse-reverse, take_all}
+use Rattle.cmd_explain.proofs.Terms.{length, reverse, take, refl, sym, ap, subst, ◌∙◌, arith}
+use Rattle.cmd_explain.proofs.Terms.{Option, Some, None, ◌<◌, reverse_onto, length-reverse}
+use Rattle.cmd_explain.proofs.Terms.{reverse-reverse, take_all}
 use Rattle.cmd_explain.proofs.Terms.{take-append_seam, reverse_aux, lines_of, numbered_from}
 use Rattle.cmd_explain.proofs.Terms.{words_of, Keyword, Reading, Record, keyword_of, desk_limits}
 use Rattle.cmd_explain.proofs.Terms.{record_opened, line_reading, statement_in, is_skipped, Words}

@@ -43,5 +43,5 @@ pub use line_words::begins_with_word;
 pub use openings::{is_emptied, is_same_record, table_of};
 pub use seeming::seems;
 pub use show_notes::cue_numbers;
-pub use skipped::push_display_text;
+pub use skipped::{display_byte, push_display_text};
 pub use weight::{Weight, weigh};

@@ -94,7 +94,9 @@ pub fn push_display_text(out: &mut Vec<u8>, bytes: &[u8]) -> Result<(), AllocErr
     Ok(())
 }
 
-fn display_byte(byte: u8) -> u8
+/// A byte as it is shown: printable ASCII as it is, a tab and a CR as a space, and each other byte
+/// as `?`.
+pub fn display_byte(byte: u8) -> u8
     ensures { result ≡ display_byte byte }
 {
     match byte {

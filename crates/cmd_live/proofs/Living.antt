@@ -29,14 +29,15 @@ use Rattle.live_input.specs.Night.{with_given}
 use Rattle.live_input.specs.Stands as live
 use Rattle.live_input.specs.Told.{IsGiven, Tells}
 use Rattle.cmd_live.specs.declared.night.Night.{Night}
-use Rattle.cmd_live.specs.Booth.{BoothState, Deed, BoothNote, begins, with_fault, happens, is_told, keys}
+use Rattle.cmd_live.specs.Booth.{BoothState, Deed, BoothNote, begins, with_fault, happens, is_told}
+use Rattle.cmd_live.specs.Booth.{keys}
 use Rattle.cmd_live.specs.Booth.{kept_at, refused, shown_at}
 use Rattle.cmd_live.specs.Booth.{waits_until}
 use Rattle.cmd_live.specs.Night.{InOrder, IsLived, Lives, Trace, answers_since, begins_at}
 use Rattle.cmd_live.specs.Night.{history_at, trace_of}
 use Rattle.cmd_live.specs.Night.{shown_in, told_in, notes_of}
 use Rattle.cmd_live.specs.Night.{waited_in, waits_of}
-use Rattle.cmd_live.specs.Shown.{Takes, help_text, shown_of, shown_place}
+use Rattle.cmd_live.specs.Shown.{TakesText, help_text, shown_of, shown_place}
 use Rattle.cmd_live.specs.Stands.{AreShown, BreaksOff, BoothCarriesOut, GoesOn, ShowsText}
 use Rattle.cmd_live.specs.Stands.{StandsFor}
 use Rattle.cmd_live.specs.Stands.{Waits, told_keys}
@@ -166,8 +167,8 @@ pub record Steps (moment : ℕ) (told : List BoothNote) (waited : List ℕ) (sen
   pub begun_is : after.booth.begun ≡ before.booth.begun
   pub happened_is : after.booth.happened ≡ asked moment ∷ before.booth.happened
   pub offered_is : after.offered ≡ before.offered ++ sends
-  pub kept : Takes before.booth.kept after.booth.kept line
-  pub shown : Takes before.booth.shown after.booth.shown text
+  pub kept : TakesText before.booth.kept after.booth.kept line
+  pub shown : TakesText before.booth.shown after.booth.shown text
   pub showing : List Deed
   pub are_shown : AreShown after.offered showing
   pub deeds_are : after.booth.deeds ≡ showing ++ (keeping ++ before.booth.deeds)

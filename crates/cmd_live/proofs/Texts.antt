@@ -5,13 +5,14 @@ use Rattle.std.specs.Prelude.{OnErr, OnOk}
 use Rattle.devices.specs.Send.{Send}
 use Rattle.devices.specs.Tape.{Tape, with_failure, with_more}
 use Rattle.cmd_live.specs.Booth.{BoothState, Deed, keeps, kept_at, shown_at, shows}
-use Rattle.cmd_live.specs.Shown.{Takes}
+use Rattle.cmd_live.specs.Shown.{TakesText}
 use Rattle.cmd_live.specs.Stands.{AreShown, ShowsText}
 
-pub takes_none : (t : Tape ℕ) → Takes t t []
+pub takes_none : (t : Tape ℕ) → TakesText t t []
 takes_none t = record { never_fewer = omega arith; whole = λ _. sym (append-nil t.items) }
 
-pub takes_more : (a b c : Tape ℕ) (x y : List ℕ) → Takes a b x → Takes b c y → Takes a c (x ++ y)
+pub takes_more : (a b c : Tape ℕ) (x y : List ℕ) → TakesText a b x → TakesText b c y
+    → TakesText a c (x ++ y)
 takes_more a b c x y first next = record {
   never_fewer = omega (arith, first.never_fewer, next.never_fewer);
   whole = λ same.
@@ -22,15 +23,15 @@ takes_more a b c x y first next = record {
       next.whole ended ∙ ap (λ items. items ++ y) (first.whole begun) ∙ append_assoc a.items x y;
 }
 
-took : (t : Tape ℕ) (text : List ℕ) → Takes t (with_more t text) text
+took : (t : Tape ℕ) (text : List ℕ) → TakesText t (with_more t text) text
 took t text = record { never_fewer = omega arith; whole = λ _. refl }
 
-failed : (t : Tape ℕ) (text : List ℕ) → Takes t (with_failure t) text
+failed : (t : Tape ℕ) (text : List ℕ) → TakesText t (with_failure t) text
 failed t text = record { never_fewer = omega arith; whole = λ same. absurd (omega (arith, same)) }
 
 -- a line was recorded when the link had been offered this
 pub record Keeps (offered : List Send) (before after : BoothState) (line : List ℕ) : Type 0 where
-  pub takes : Takes before.kept after.kept line
+  pub takes : TakesText before.kept after.kept line
   pub rest : after ≡ keeps after.kept offered before
 
 pub kept_by : {E : Type 0} (r : Result (Unit {0}) E) (tells : Type 0) (offered : List Send)
@@ -46,7 +47,7 @@ kept_by (Err fault) tells offered s t line ok err told =
 -- ---- what it shows
 
 one_deed : (offered : List Send) (s : BoothState) (shown : Tape ℕ) (text : List ℕ)
-    → Takes s.shown shown text → ShowsText offered s (shows shown offered s) text
+    → TakesText s.shown shown text → ShowsText offered s (shows shown offered s) text
 one_deed offered s shown text takes = record {
   takes = takes;
   deeds = shown_at offered ∷ [];

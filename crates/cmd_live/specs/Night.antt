@@ -18,9 +18,10 @@ use Rattle.live_input.specs.Night.{Answer, Happening, answer_to, answers, asked,
 use Rattle.live_input.specs.Night.{typed_line}
 use Rattle.live_input.specs.Night.{help, lines_given, now, over, place, refusal, refused_front}
 use Rattle.live_input.specs.Night.{wait}
-use Rattle.cmd_live.specs.Booth.{BoothState, Deed, BoothNote, begins, with_fault, keys, kept_at, refused}
+use Rattle.cmd_live.specs.Booth.{BoothState, Deed, BoothNote, begins, with_fault, keys, kept_at}
+use Rattle.cmd_live.specs.Booth.{refused}
 use Rattle.cmd_live.specs.Booth.{shown_at}
-use Rattle.cmd_live.specs.Shown.{Takes, help_text, shown_of, shown_place}
+use Rattle.cmd_live.specs.Shown.{TakesText, help_text, shown_of, shown_place}
 
 -- what a booth did, and what a link was offered
 pub record Trace : Type 0 where
@@ -108,8 +109,8 @@ pub record Lives (p : Production) (first happened : List Happening) (before afte
   pub begun_is : after.booth.begun ≡ before.booth.begun
   pub happened_is : after.booth.happened ≡ happened ++ before.booth.happened
   pub offered_is : after.offered ≡ before.offered ++ sends_of_run run
-  pub kept : Takes before.booth.kept after.booth.kept (lines_text (lines_of_run run))
-  pub shown : Takes before.booth.shown after.booth.shown
+  pub kept : TakesText before.booth.kept after.booth.kept (lines_text (lines_of_run run))
+  pub shown : TakesText before.booth.shown after.booth.shown
       (shown_in p (history_at p.show first) (answers_since first happened) run)
   pub deeds : List Deed
   pub deeds_are : after.booth.deeds ≡ deeds ++ before.booth.deeds

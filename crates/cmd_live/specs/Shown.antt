@@ -60,6 +60,6 @@ help_text = codes "go, back              the next cue, the one before\n"
     ++ codes "end                   ends the night, dark; leave: receivers keep the light or drop it\n"
 
 -- a text was taken whole, unless a call failed meanwhile
-pub record Takes (before after : Tape ℕ) (text : List ℕ) : Type 0 where
+pub record TakesText (before after : Tape ℕ) (text : List ℕ) : Type 0 where
   pub never_fewer : before.failures ≤ after.failures
   pub whole : after.failures ≡ before.failures → after.items ≡ before.items ++ text

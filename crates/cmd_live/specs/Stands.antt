@@ -19,7 +19,7 @@ use Rattle.live_input.specs.Stands as live
 use Rattle.cmd_live.specs.declared.night.Night.{Night}
 use Rattle.cmd_live.specs.Booth.{BoothState, Deed, with_fault, is_told, kept_at, keys, shown_at}
 use Rattle.cmd_live.specs.Night.{Lives, Trace, trace_of}
-use Rattle.cmd_live.specs.Shown.{Takes, shown_of}
+use Rattle.cmd_live.specs.Shown.{TakesText, shown_of}
 
 abbrev pub accepts_call : Answer → Bool
 accepts_call (Refused why) = false
@@ -35,7 +35,7 @@ AreShown offered (kept_at at ∷ older) = ⊥
 -- else was done
 pub record ShowsText (offered : List Send) (before after : BoothState)
     (text : List ℕ) : Type 0 where
-  pub takes : Takes before.shown after.shown text
+  pub takes : TakesText before.shown after.shown text
   pub deeds : List Deed
   pub are_shown : AreShown offered deeds
   pub rest : after ≡ record before { shown = after.shown; deeds = deeds ++ before.deeds }
@@ -51,8 +51,8 @@ pub record BoothCarriesOut (p : Production) (history : List Act) (line : List �
   pub begun_is : after.booth.begun ≡ before.booth.begun
   pub happened_is : after.booth.happened ≡ before.booth.happened
   pub offered_is : after.offered ≡ before.offered ++ sends
-  pub kept : Takes before.booth.kept after.booth.kept (line ++ 10 ∷ [])
-  pub shown : Takes before.booth.shown after.booth.shown (shown_of p history (reading_of line)
+  pub kept : TakesText before.booth.kept after.booth.kept (line ++ 10 ∷ [])
+  pub shown : TakesText before.booth.shown after.booth.shown (shown_of p history (reading_of line)
       offers)
   pub answers : List Deed
   pub are_shown : AreShown after.offered answers

@@ -69,7 +69,7 @@ impl<F: Fader> Night<F> {
         Ok(())
     }
 
-    /// Takes up lines of the record of a live night behind those before, by their text: carries
+    /// TakesText up lines of the record of a live night behind those before, by their text: carries
     /// them out, and offers to the link what is due. A night that goes on behind a record takes it
     /// up over [`Silent`]; one that follows another console takes up its lines as they come, over a
     /// link of its own. Bytes behind the last LF are no line yet. Answers how many bytes of the

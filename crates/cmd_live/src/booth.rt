@@ -1,7 +1,8 @@
 ghost use Rattle.std.specs.Prelude.{◌≡◌, IfOk, OnOk, OnErr};
 ghost use Rattle.devices.specs.Tape.{with_more, with_failure};
 ghost use Rattle.live_input.specs.Night.{asked};
-ghost use Rattle.cmd_live.specs.Booth.{BoothState, HeardFits, with_fault, happens, with_input, keeps};
+ghost use Rattle.cmd_live.specs.Booth.{BoothState, HeardFits, with_fault, happens, with_input};
+ghost use Rattle.cmd_live.specs.Booth.{keeps};
 ghost use Rattle.cmd_live.specs.Booth.{begins, is_told, keys, refused, shows, waits_until};
 
 use devices::{Link, LinkFault};
@@ -45,7 +46,8 @@ pub trait Booth {
         ensures told { tells self.new → tells self.old }
         ensures ok { IfOk result (λ moment. tells self.new
             → state self.new ≡ happens (asked moment) (state self.old)) }
-        ensures err { OnErr result (tells self.new → state self.new ≡ with_fault (state self.old)) };
+        ensures err { OnErr result (tells self.new
+            → state self.new ≡ with_fault (state self.old)) };
 
     /// Waits for what is typed, at most from `moment` to `due`, both in milliseconds from the start
     /// of the night, and writes it to the front of the block.

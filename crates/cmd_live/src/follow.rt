@@ -72,8 +72,8 @@ impl<F: Fader> Night<F> {
         Pause::Ended
     }
 
-    /// Follows a main, as [`Night::follow`] does: why the night does not for now, or `None` at a line
-    /// that no live night gives. Unless it was that, the night can follow on.
+    /// Follows a main, as [`Night::follow`] does: why the night does not for now, or `None` at a
+    /// line that no live night gives. Unless it was that, the night can follow on.
     pub fn follow_main<M: MainConsole, L: Link>(
         &mut self,
         main: &mut M,

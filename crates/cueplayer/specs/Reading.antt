@@ -4,5 +4,5 @@ use Rattle.cmd_faults.specs.declared.fault.RunFault.TheVariants as run
 use Rattle.remarks.specs.declared.failure.Failure.{Failure}
 
 -- a text could not be read whole: a device failed, or a growth was refused
-abbrev pub IsUnread : Failure → Type 0
-IsUnread failure = (failure.fault ≡ run.Device) ⊎ (failure.fault ≡ run.Memory)
+abbrev pub IsReadingFault : Failure → Type 0
+IsReadingFault failure = (failure.fault ≡ run.Device) ⊎ (failure.fault ≡ run.Memory)

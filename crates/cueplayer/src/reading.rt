@@ -1,5 +1,5 @@
 ghost use Rattle.std.specs.Prelude.{◌≤◌, [], IfErr, IfOk, length};
-ghost use Rattle.cueplayer.specs.Reading.{IsUnread};
+ghost use Rattle.cueplayer.specs.Reading.{IsReadingFault};
 
 use byte_reading::{Unread, first_bytes};
 use cmd_faults::RunFault;
@@ -95,7 +95,7 @@ pub fn record_lines(
     name: &str,
     milliseconds: u64,
 ) -> Result<Option<(FirstLines, AppendedLines)>, Failure>
-    ensures fault { IfErr result IsUnread }
+    ensures fault { IfErr result IsReadingFault }
 {
     match lines_in_time(rt, name, milliseconds) {
         Ok(found) => Ok(found),

@@ -1,4 +1,5 @@
-ghost use Rattle.std.specs.Prelude.{◌≡◌, None, false, true};
+ghost use Rattle.std.specs.Prelude.{◌≡◌, ◌==◌, ◌&&◌, None, Some, false, not, true};
+ghost use Rattle.std.specs.Prelude.{if◌then◌else◌};
 
 use crate::output::JobOutput;
 use crate::source::JobSource;
@@ -12,8 +13,6 @@ pub struct MemoryJobOutput {
     pub output: MemoryOutput,
     /// The reason that each failed call has.
     pub kind: ErrorKind,
-    /// The reason where a call failed.
-    pub failure: Option<ErrorKind>,
     /// Nothing was written since it was flushed.
     pub is_handed_on: bool,
 }
@@ -23,26 +22,13 @@ impl MemoryJobOutput {
     pub fn new(output: MemoryOutput, kind: ErrorKind) -> Self
         ensures output { result.output ≡ output }
         ensures kind { result.kind ≡ kind }
-        ensures failure { result.failure ≡ None }
         ensures handed_on { result.is_handed_on ≡ false }
     {
         MemoryJobOutput {
             output,
             kind,
-            failure: None,
             is_handed_on: false,
         }
-    }
-
-    fn take_answer(&mut self, answer: Result<(), LinkFault>) -> Result<(), LinkFault>
-        ensures answer { result ≡ answer }
-        ensures output { self.new.output ≡ self.old.output }
-        ensures handed_on { self.new.is_handed_on ≡ self.old.is_handed_on }
-    {
-        if answer.is_err() {
-            self.failure = Some(self.kind);
-        }
-        answer
     }
 }
 
@@ -56,18 +42,21 @@ impl Output for MemoryJobOutput {
 
     fn write(&mut self, bytes: &[u8]) -> Result<(), LinkFault> {
         self.is_handed_on = false;
-        let answer = self.output.write(bytes);
-        self.take_answer(answer)
+        self.output.write(bytes)
     }
 }
 
 impl JobOutput for MemoryJobOutput {
-    ghost reason = { λ m. m.failure };
+    ghost reason = { λ m. if m.output.faults.failed == 0 then None else Some m.kind };
 
     ghost is_handed_on = { λ m. m.is_handed_on ≡ true };
 
     fn failure(&self) -> Option<ErrorKind> {
-        self.failure
+        if self.output.faults.failed == 0 {
+            None
+        } else {
+            Some(self.kind)
+        }
     }
 
     fn is_empty(&self) -> bool {
@@ -76,8 +65,7 @@ impl JobOutput for MemoryJobOutput {
 
     fn flush(&mut self) -> Result<(), LinkFault> {
         self.is_handed_on = true;
-        let answer = self.output.write(b"");
-        self.take_answer(answer)
+        self.output.write(b"")
     }
 }
 
@@ -87,8 +75,6 @@ pub struct MemoryJobSource<'a> {
     pub source: MemoryDatagrams<'a>,
     /// The reason that each failed call has.
     pub kind: ErrorKind,
-    /// The reason where a call failed.
-    pub failure: Option<ErrorKind>,
 }
 
 impl<'a> MemoryJobSource<'a> {
@@ -96,12 +82,10 @@ impl<'a> MemoryJobSource<'a> {
     pub fn new(source: MemoryDatagrams<'a>, kind: ErrorKind) -> Self
         ensures source { result.source ≡ source.entry }
         ensures kind { result.kind ≡ kind }
-        ensures failure { result.failure ≡ None }
     {
         MemoryJobSource {
             source,
             kind,
-            failure: None,
         }
     }
 }
@@ -117,18 +101,19 @@ impl Datagrams for MemoryJobSource<'_> {
     } };
 
     fn receive(&mut self, buf: &mut [u8; 1500]) -> Result<usize, LinkFault> {
-        let answer = self.source.receive(buf);
-        if answer.is_err() {
-            self.failure = Some(self.kind);
-        }
-        answer
+        self.source.receive(buf)
     }
 }
 
 impl JobSource for MemoryJobSource<'_> {
-    ghost reason = { λ m. m.failure };
+    ghost reason = { λ m. if m.source.faults.failed == 0 && not m.source.exhausted then None
+      else Some m.kind };
 
     fn failure(&self) -> Option<ErrorKind> {
-        self.failure
+        if self.source.faults.failed == 0 && !self.source.exhausted {
+            None
+        } else {
+            Some(self.kind)
+        }
     }
 }

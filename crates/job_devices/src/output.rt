@@ -1,4 +1,4 @@
-ghost use Rattle.std.specs.Prelude.{◌≡◌, ◌==◌, length, OnOk, OnErr, Option};
+ghost use Rattle.std.specs.Prelude.{◌≡◌, ◌==◌, is_none, length, OnOk, OnErr, Option};
 ghost use Rattle.std.specs.declared.io.ErrorKind.{ErrorKind as KindOf};
 ghost use Rattle.devices.specs.Tape.{with_failure};
 
@@ -14,9 +14,12 @@ pub trait JobOutput: Output {
     /// It holds nothing back of what it took.
     ghost is_handed_on: { Self → Type 0 };
 
-    /// The system's reason where a call failed: that of the last.
+    /// The system's reason where a call failed: that of the last. There is one exactly where a call
+    /// failed.
     fn failure(&self) -> Option<ErrorKind>
-        ensures { result ≡ reason self.now };
+        ensures reason { result ≡ reason self.now }
+        ensures none { Self.tells self.now
+            → is_none result ≡ ((Self.tape self.now).failures == 0) };
 
     /// Whether it took no byte so far.
     fn is_empty(&self) -> bool

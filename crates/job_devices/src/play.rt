@@ -1,5 +1,5 @@
 ghost use Rattle.std.specs.Prelude.{◌≡◌, List, [], ◌∷◌, ◌++◌, is_err, is_ok};
-ghost use Rattle.job_devices.specs.Plays.{IsLockedPlay, IsPlay, IsPlaying, play_lock};
+ghost use Rattle.job_devices.specs.Plays.{IsLockedPlay, IsLineNight, IsPlaying, play_lock};
 ghost use Rattle.job_devices.specs.declared.play.PlayStep.{PlayStep as StepOf};
 ghost use Rattle.job_devices.specs.declared.play.PlayStep.TheVariants as step;
 
@@ -129,7 +129,7 @@ pub trait PlaySystem {
 /// Why that one failed.
 pub fn play_from_lines<S: PlaySystem>(system: &mut S, source: S::Source) -> Result<(), S::Fault>
     ensures told { S.tells system.new → S.tells system.old }
-    ensures steps { S.tells system.new → (steps : List StepOf) × IsPlay steps (is_err result)
+    ensures steps { S.tells system.new → (steps : List StepOf) × IsLineNight steps (is_err result)
         × (S.steps system.new ≡ S.steps system.old ++ steps) }
 {
     system.ask_for_standard()?;

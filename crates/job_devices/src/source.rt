@@ -1,4 +1,4 @@
-ghost use Rattle.std.specs.Prelude.{◌≡◌, Option};
+ghost use Rattle.std.specs.Prelude.{◌≡◌, ◌==◌, is_none, Option};
 ghost use Rattle.std.specs.declared.io.ErrorKind.{ErrorKind as KindOf};
 
 use devices::Datagrams;
@@ -9,7 +9,10 @@ pub trait JobSource: Datagrams {
     /// The system's reason where a call failed: that of the last.
     ghost reason: { Self → Option KindOf };
 
-    /// The system's reason where a call failed: that of the last.
+    /// The system's reason where a call failed: that of the last. There is one exactly where a call
+    /// failed.
     fn failure(&self) -> Option<ErrorKind>
-        ensures { result ≡ reason self.now };
+        ensures reason { result ≡ reason self.now }
+        ensures none { Self.tells self.now
+            → is_none result ≡ ((Self.tape self.now).failures == 0) };
 }

@@ -15,8 +15,8 @@ abbrev pub IsDone : {P : Type 0} → ℕ → LineQueue P → PipeTape → PipeTa
 IsDone parts queue old new =
     (waiting_in queue ≡ []) ⊎ ((new.is_full ≡ true) ⊎ (new.writes ≡ old.writes + parts))
 
--- behind a line that was taken: nothing waits any more, the pipe takes nothing, or it was written to
--- at least so often
+-- behind a line that was taken: nothing waits any more, the pipe takes nothing, or it was written
+-- to at least so often
 abbrev pub IsHandedOn : {P : Type 0} → ℕ → LineQueue P → PipeTape → PipeTape → Type 0
 IsHandedOn parts queue old new =
     (waiting_in queue ≡ []) ⊎ ((new.is_full ≡ true) ⊎ (old.writes + parts ≤ new.writes))

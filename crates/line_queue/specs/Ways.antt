@@ -6,7 +6,8 @@ use Rattle.std.specs.declared.env.VarError.{VarError}
 use Rattle.std.specs.declared.env.VarError.TheVariants as variable
 use Rattle.line_queue.specs.declared.output_way.OutputWay.{OutputWay}
 use Rattle.line_queue.specs.declared.way.PipeVariable.{PipeVariable}
-use Rattle.line_queue.specs.declared.way.PipeVariable.TheVariants.{NamesNothing, NamesPipe, OutOfMemory}
+use Rattle.line_queue.specs.declared.way.PipeVariable.TheVariants.{NamesNothing, NamesPipe}
+use Rattle.line_queue.specs.declared.way.PipeVariable.TheVariants.{OutOfMemory}
 use Rattle.line_queue.specs.declared.way.WayStep.{WayStep}
 use Rattle.line_queue.specs.declared.way.WayStep.TheVariants as step
 

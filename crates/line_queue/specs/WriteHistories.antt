@@ -14,8 +14,8 @@ newest_failure failure (Err reason) = Some reason
 
 -- it was handed these bytes, and the system answered so: whether or not it took them, it is empty
 -- only as long as it was handed none
-abbrev pub history_after : WriteHistory → List ℕ → Result (Unit {0}) ErrorKind → WriteHistory
-history_after history bytes answer = record {
+abbrev pub writes_after : WriteHistory → List ℕ → Result (Unit {0}) ErrorKind → WriteHistory
+writes_after history bytes answer = record {
   failure = newest_failure history.failure answer;
   is_empty = history.is_empty && nat_eq (length bytes) 0;
 }

@@ -2,12 +2,12 @@
 //!
 //! A [`LineQueue`] takes lines and hands them on as far as its [`Pipe`] takes bytes at once. A line
 //! for which there is no room is dropped, and a [`Notice`] at its place says how many lines were.
-//! Where another process writes the output's file, [`open_way`] opens the pipe to it,
-//! its bytes take the [`OutputWay`],
-//! [`owed_bytes`] are those that the file does not have yet, and [`wait_for_writers`] waits for
-//! them. A [`Screen`] hands on the replies of a night before its messages, and a [`RecordKeeper`]
-//! keeps its record. An output that may be closed is a [`LineOutput`]. Whether a descriptor takes or has
-//! bytes a [`PolledDescriptor`] says, and a [`WriteHistory`] what became of an output.
+//! Where another process writes the output's file, [`open_way`] opens the pipe to it, the bytes
+//! take the [`OutputWay`], [`owed_bytes`] says how many the file does not have yet, and
+//! [`wait_for_writers`] waits for them. A [`Screen`] hands on the replies of a night before its
+//! messages, and a [`RecordKeeper`] keeps its record. An output that may be closed is a
+//! [`LineOutput`]. A [`PolledDescriptor`] says whether a descriptor takes or has bytes, and a
+//! [`WriteHistory`] what became of an output.
 //!
 //! ```
 //! let notice = Notice { mark: "! ", lines: "lines" };

@@ -64,8 +64,8 @@ impl RecordKeeper {
         RecordKeeper::default()
     }
 
-    /// Keeps a line, or drops it. Where the record is late, is whole again, or cannot be written any
-    /// more, that is told.
+    /// Keeps a line, or drops it. Where the record is late, is whole again, or cannot be written
+    /// any more, that is told.
     pub fn keep<R: RecordOutputs>(&mut self, outputs: &mut R, line: &[u8])
         ensures told { R.tells outputs.new → R.tells outputs.old }
         ensures kept { (told_of_record self.old).has_failed ≡ false → (look : LookOf)

@@ -1,5 +1,5 @@
 ghost use Rattle.std.specs.Prelude.{◌≡◌, is_err};
-ghost use Rattle.line_queue.specs.WriteHistories.{history_after, no_writes};
+ghost use Rattle.line_queue.specs.WriteHistories.{writes_after, no_writes};
 
 use devices::LinkFault;
 use std::io::ErrorKind;
@@ -30,7 +30,7 @@ impl WriteHistory {
     ///
     /// Where the write failed.
     pub fn take_up(&mut self, bytes: &[u8], answer: Result<(), ErrorKind>) -> Result<(), LinkFault>
-        ensures history { self.new ≡ history_after self.old bytes.now answer }
+        ensures history { self.new ≡ writes_after self.old bytes.now answer }
         ensures fault { is_err result ≡ is_err answer }
     {
         self.is_empty &= bytes.is_empty();

@@ -92,8 +92,8 @@ impl<N: NightNetwork> LinkWatch<N> {
         notices
     }
 
-    /// Looks as [`LinkWatch::look`] does, at the time that this clock shows. Where it cannot be read,
-    /// or its milliseconds do not fit, there is no look.
+    /// Looks as [`LinkWatch::look`] does, at the time that this clock shows. Where it cannot be
+    /// read, or its milliseconds do not fit, there is no look.
     pub fn look_by<C: MachineClock>(&mut self, clock: &mut C) -> LinkNotices
         ensures clock { C.tells clock.new → C.tells clock.old }
         ensures network { N.tells self.new.network → N.tells self.old.network }

@@ -4,7 +4,8 @@ use Rattle.std.proofs.Common.{◌⊎◌, inl, inr, length}
 use Rattle.std.specs.Prelude.{nat_le, is_some, Option, Some, None, Result, Ok, Err}
 use Rattle.std.specs.Prelude.{if◌then◌else◌}
 use Rattle.arrayvec.specs.declared.array_string.ArrayString.{ArrayString}
-use Rattle.night_files.specs.CidLockLaws.{AreInOwnFolder, CidLockLaw, IsAnswered, StopsWithoutLock}
+use Rattle.night_files.specs.CidLockLaws.{AreInOwnFolder, CidLockLaw, IsAnswerOfLock}
+use Rattle.night_files.specs.CidLockLaws.{StopsWithoutLock}
 use Rattle.night_files.specs.CidLockLaws.{lock_step_fails}
 use Rattle.night_files.specs.CidLocks.{IsCidLock, IsFileOpening, IsFolderChoice, IsFolderLook}
 use Rattle.night_files.specs.CidLocks.{IsFolderMaking, IsNamedFolder, IsOwnFolder}
@@ -23,7 +24,7 @@ use Rattle.night_files.specs.declared.record_opening.FileFault.TheVariants.{Memo
 -- what holds of the steps from one on
 abbrev Facts : List ℕ → ℕ → Result Bool LockFault → List CidLockStep → Type 0
 Facts cid user result steps =
-    AreInOwnFolder cid user steps × IsAnswered result steps × StopsWithoutLock steps
+    AreInOwnFolder cid user steps × IsAnswerOfLock result steps × StopsWithoutLock steps
 
 failed : (fault : FileFault) (result : Result Bool LockFault) → result ≡ failure_answer fault
     → (result ≡ Ok false) ⊎ (result ≡ Err lock_fault.Memory)

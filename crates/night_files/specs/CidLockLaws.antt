@@ -30,11 +30,11 @@ file_lock_answer path Missing = Ok false
 
 -- the answer is that of the lock of the file that was opened; where no lock was asked for, there is
 -- none, or memory is out
-abbrev pub IsAnswered : Result Bool LockFault → List CidLockStep → Type 0
-IsAnswered result [] = (result ≡ Ok false) ⊎ (result ≡ Err Memory)
-IsAnswered result (step.Open path (Ok opened) ∷ step.Lock lock ∷ steps) =
+abbrev pub IsAnswerOfLock : Result Bool LockFault → List CidLockStep → Type 0
+IsAnswerOfLock result [] = (result ≡ Ok false) ⊎ (result ≡ Err Memory)
+IsAnswerOfLock result (step.Open path (Ok opened) ∷ step.Lock lock ∷ steps) =
     result ≡ file_lock_answer path lock
-IsAnswered result (other ∷ steps) = IsAnswered result steps
+IsAnswerOfLock result (other ∷ steps) = IsAnswerOfLock result steps
 
 -- the system did not do a step, other than to make a folder that is there
 abbrev pub lock_step_fails : CidLockStep → Bool
@@ -59,6 +59,6 @@ pub record CidLockLaw : Type 0 where
       (result : Result Bool LockFault) → IsCidLock cid steps result
       → AreInOwnFolder cid before steps
   pub answered : (cid : List ℕ) (steps : List CidLockStep) (result : Result Bool LockFault)
-      → IsCidLock cid steps result → IsAnswered result steps
+      → IsCidLock cid steps result → IsAnswerOfLock result steps
   pub stops : (cid : List ℕ) (steps : List CidLockStep)
       (result : Result Bool LockFault) → IsCidLock cid steps result → StopsWithoutLock steps

@@ -1,7 +1,7 @@
 //! The files of a night: which process has a lock, where the lock of a CID lies and how it is
-//! taken, how often a lock is asked for and by which descriptor, which files a record is kept in, in
-//! which order such a file is opened, looked at, locked and read, when it is cut or removed, and
-//! what a failure means. Nothing here opens a file: the system does, by the traits.
+//! taken, how often a lock is asked for and by which descriptor, which files a record is kept in,
+//! in which order such a file is opened, looked at, locked and read, when it is cut or removed,
+//! and what a failure means. Nothing here opens a file: the system does, by the traits.
 //!
 //! ```
 //! let lock = ask_for_lock(&mut lock);

@@ -25,8 +25,10 @@ pub finds_one : (paths : List Path) (sources : List Source) (place : ℕ)
     (route : Option Route) → place < length sources → source ≡ get_or sources place source
     → IsRouteFound (first_host paths place) route one
     → FindsRest paths sources place found steps
-    → FindsRest paths sources (place + 1) (found ++ with_found_route source route ∷ []) (steps ++ one)
-finds_one paths sources place found steps one source route within is found_one before more rest are =
+    → FindsRest paths sources (place + 1) (found ++ with_found_route source route ∷ [])
+    (steps ++ one)
+finds_one paths sources place found steps one source route within is found_one before more rest
+    are =
     let new = with_found_route source route in
     let here : AreRoutesFound paths place (drop place sources) (new ∷ more) (one ++ rest) =
     subst (λ left. AreRoutesFound paths place left (new ∷ more) (one ++ rest))

@@ -2,7 +2,8 @@
 //!
 //! Each line is made from plain data, and has room in its text. Which lines are told at the start,
 //! and in which order, is decided here too: they are told to a [`LineTeller`]. Which routes and
-//! cards are looked up for them is asked of a [`NetworkLookup`]. Nothing here opens or looks itself.
+//! cards are looked up for them is asked of a [`NetworkLookup`]. Nothing here opens or looks
+//! itself.
 #![tactic(auto)]
 
 mod booth_lines;

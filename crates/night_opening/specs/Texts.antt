@@ -42,10 +42,10 @@ IsUnreadInput name (Device kind) failure = Fails run.Device (of_device name kind
 IsUnreadInput name Memory failure = Fails run.Memory [] failure
 
 -- what came is answered as it is, or why nothing came
-abbrev pub IsTextOf : List ℕ → Result (List ℕ) Unread → Result (List ℕ) Failure → Type 0
-IsTextOf name (Ok bytes) (Ok text) = text ≡ bytes
-IsTextOf name (Err reason) (Err failure) = IsUnreadInput name reason failure
-IsTextOf name _ _ = ⊥
+abbrev pub IsReadText : List ℕ → Result (List ℕ) Unread → Result (List ℕ) Failure → Type 0
+IsReadText name (Ok bytes) (Ok text) = text ≡ bytes
+IsReadText name (Err reason) (Err failure) = IsUnreadInput name reason failure
+IsReadText name _ _ = ⊥
 
 -- a show that was read suits the targets of a night, or why not
 abbrev pub SuitsNight : Night → List ℕ → Result Unit JobFault → Type 0

@@ -183,7 +183,7 @@ fn refuse_end<F: Fader>(night: &Night<F>) -> Result<(), Refusal>
     ensures { IsStillOn night.now result }
 {
     if night.is_over() {
-        Err(Refusal::over())
+        Err(Refusal::night_is_over())
     } else {
         Ok(())
     }

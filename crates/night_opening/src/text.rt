@@ -1,7 +1,7 @@
 ghost use Rattle.std.specs.Prelude.{◌≡◌, ◌≤◌, ◌∷◌, ◌++◌, ℕ, List, Result, [], None, Some, IfOk};
 ghost use Rattle.std.specs.Prelude.{length};
 ghost use Rattle.byte_reading.specs.declared.reading.Unread.{Unread as UnreadOf};
-ghost use Rattle.night_opening.specs.Texts.{IsSuitable, IsTextOf, TextStep, input_name, input_of};
+ghost use Rattle.night_opening.specs.Texts.{IsSuitable, IsReadText, TextStep, input_name, input_of};
 ghost use Rattle.night_opening.specs.Texts.{read_bytes, text_step};
 
 use crate::fit::check_targets;
@@ -57,7 +57,7 @@ pub fn show_text<S: TextSource>(source: &mut S, name: &str) -> Result<Vec<u8>, F
     ensures most { IfOk result (λ bytes. length bytes.items ≤ 1048577) }
     ensures told { S.tells source.new → S.tells source.old }
     ensures reads { (answer : Result (List ℕ) UnreadOf)
-        × IsTextOf (input_name (input_of name.now)) answer (read_bytes result)
+        × IsReadText (input_name (input_of name.now)) answer (read_bytes result)
         × (S.tells source.new → S.steps source.new
         ≡ S.steps source.old ++ text_step (input_of name.now) 1048577 answer ∷ []) }
 {
@@ -76,7 +76,7 @@ pub fn file_text<S: TextSource>(source: &mut S, name: &str) -> Result<Vec<u8>, F
     ensures most { IfOk result (λ bytes. length bytes.items ≤ 1048577) }
     ensures told { S.tells source.new → S.tells source.old }
     ensures reads { (answer : Result (List ℕ) UnreadOf)
-        × IsTextOf name.now answer (read_bytes result)
+        × IsReadText name.now answer (read_bytes result)
         × (S.tells source.new → S.steps source.new
         ≡ S.steps source.old ++ text_step (Some name.now) 1048577 answer ∷ []) }
 {
@@ -96,7 +96,7 @@ pub fn first_text<S: TextSource>(
     ensures most { IfOk result (λ bytes. length bytes.items ≤ most) }
     ensures told { S.tells source.new → S.tells source.old }
     ensures reads { (answer : Result (List ℕ) UnreadOf)
-        × IsTextOf name.now answer (read_bytes result)
+        × IsReadText name.now answer (read_bytes result)
         × (S.tells source.new → S.steps source.new
         ≡ S.steps source.old ++ text_step (Some name.now) most answer ∷ []) }
 {
@@ -127,7 +127,7 @@ pub fn suitable_show<S: TextSource>(
 
 // What was read of an input of this name.
 fn text_of(name: &str, bytes: Result<Vec<u8>, Unread>) -> Result<Vec<u8>, Failure>
-    ensures { IsTextOf name.now (read_bytes bytes) (read_bytes result) }
+    ensures { IsReadText name.now (read_bytes bytes) (read_bytes result) }
 {
     match bytes {
         Ok(read) => Ok(read),

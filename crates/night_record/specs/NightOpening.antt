@@ -38,8 +38,8 @@ abbrev pub IsNightOpening : RecordHead → List ℕ → Result NightOpening Unfi
 IsNightOpening night text (Ok opening) = Opens night text opening.head opening.lines
 IsNightOpening night text (Err unfit) = IsOpening night text (Err unfit)
 
--- a night goes on behind so many bytes of a record that another process played, where nothing failed
--- and the record is still there
+-- a night goes on behind so many bytes of a record that another process played, where nothing
+-- failed and the record is still there
 abbrev pub opening_behind : {F : Type 0} → ℕ → Option F → Bool → F → Result NightOpening F
 opening_behind given (Some fault) is_there gone = Err fault
 opening_behind given None true gone =

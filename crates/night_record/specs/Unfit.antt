@@ -45,8 +45,8 @@ IsMain night line (Err (main.Other _ head)) = ⊥
 IsMain night line (Err main.SameCid) = (head : RecordHead) × SpellsHead line head
     × IsOfShow head night × (bytes_eq head.cid night.cid ≡ true)
 
--- a night takes up the lines that were found behind a head which is its own; where no head was found,
--- there is no record
+-- a night takes up the lines that were found behind a head which is its own; where no head was
+-- found, there is no record
 abbrev pub TakesUpFound : {L : Type 0} → RecordHead → Option (ArrayVec ℕ 403 (Unit {0}) × L)
     → Result L Unfit → Type 0
 TakesUpFound night None result = result ≡ Err own.NoRecord

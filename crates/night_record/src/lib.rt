@@ -1,10 +1,10 @@
 //! The record of a night, as text: how its bytes part in lines as they come, and what a night does
 //! by what stands in it.
 //!
-//! [`NightLines`] parts what comes, of a record that another process writes ([`Growth`]) or of what
-//! is typed, in lines; [`RecordLines`] numbers those of a record, and [`RecordKind`] says how one is
-//! opened and read. [`RecordOpening`] says whether a night begins in a record or goes on behind
-//! it, and what of it is kept; [`own_head`] and [`main_head`] whether it may be taken up or
+//! [`NightLines`] parts what comes, of a record that another process writes ([`Growth`]) or of
+//! what is typed, in lines; [`RecordLines`] numbers those of a record, and [`RecordKind`] says how
+//! one is opened and read. [`RecordOpening`] says whether a night begins in a record or goes on
+//! behind it, and what of it is kept; [`own_head`] and [`main_head`] whether it may be taken up or
 //! followed; [`Asked`] what is typed meanwhile; and [`is_silent`] when a main is followed no more.
 //!
 //! The head of a record are the first two lines of its file, which say whose night it is.

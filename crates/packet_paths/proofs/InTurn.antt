@@ -4,7 +4,7 @@ use Rattle.std.proofs.Common.{◌<◌, append-nil, append_assoc, arith, get_or, 
 use Rattle.std.proofs.lemmas.List.{length-take-le, take_more}
 use Rattle.packet_paths.specs.NetworkLooks.{AreSourcesLooked, SourceAnswers, source_after}
 use Rattle.packet_paths.specs.NetworkLooks.{source_steps}
-use Rattle.packet_paths.specs.NetworkOpens.{AreTaken, IsTaken}
+use Rattle.packet_paths.specs.NetworkOpens.{AreTargetsReached, IsTargetReached}
 use Rattle.packet_paths.specs.NetworkSteps.{NetworkStep}
 use Rattle.packet_paths.specs.Hosts.{path_place}
 use Rattle.packet_paths.specs.PathLooks.{ArePathsFound, IsPathFound}
@@ -12,7 +12,7 @@ use Rattle.packet_paths.specs.Sends.{source_at}
 use Rattle.packet_paths.specs.declared.night_paths.Leaving.{Leaving}
 use Rattle.packet_paths.specs.declared.night_paths.Source.{Source}
 use Rattle.packet_paths.specs.declared.path.Path.{Path}
-use Rattle.packet_paths.specs.RoutedNotices.{AreRouted, IsRouteTo, host_to_route}
+use Rattle.packet_paths.specs.RoutedNotices.{AreRouted, AsksForRoute, host_to_route}
 use Rattle.packet_paths.specs.declared.routed_notices.RoutedNotice.{RoutedNotice}
 use Rattle.link_notices.specs.declared.notice.LinkNotice.{LinkNotice}
 use Rattle.network_tables.specs.declared.route.Route.{Route}
@@ -85,19 +85,20 @@ path_more leaving (other ∷ front) sources found middle steps path one after mo
 pub target_more : (leaving : Leaving) (front : List Target) (sources : List Source)
     (paths : List Path) (middle : List Source) (between : List Path) (steps : List NetworkStep)
     (target : Target) (after : List Source) (found : List Path) (more : List NetworkStep)
-    → AreTaken leaving front sources paths middle between steps
-    → IsTaken (path_place between target.address.host) leaving target.address.host middle between
-    after found (Ok tt) more
-    → AreTaken leaving (front ++ target ∷ []) sources paths after found (steps ++ more)
+    → AreTargetsReached leaving front sources paths middle between steps
+    → IsTargetReached (path_place between target.address.host) leaving target.address.host middle
+    between after found (Ok tt) more
+    → AreTargetsReached leaving (front ++ target ∷ []) sources paths after found (steps ++ more)
 target_more leaving [] sources paths middle between steps target after found more h is =
     let host = target.address.host in (
       after,
       found,
       more,
       [],
-      subst (λ s. IsTaken (path_place paths host) leaving host s paths after found (Ok tt) more) h.0
-          (subst (λ p. IsTaken (path_place p host) leaving host middle p after found (Ok tt) more)
-          h.1 is),
+      subst (λ s. IsTargetReached (path_place paths host) leaving host s paths after found (Ok tt)
+          more) h.0
+          (subst (λ p. IsTargetReached (path_place p host) leaving host middle p after found (Ok tt)
+          more) h.1 is),
       (refl, refl, refl),
       alone steps more h.2,
     )
@@ -108,14 +109,15 @@ target_more leaving (other ∷ front) sources paths middle between steps target 
       first,
       rest ++ more,
       is_first,
-      target_more leaving front sources_1 paths_1 middle between rest target after found more are is,
+      target_more leaving front sources_1 paths_1 middle between rest target after found more are
+          is,
       ap (λ l. l ++ more) steps_are ∙ append_assoc first rest more,
     )
 
 pub notice_more : (paths : List Path) (front : List LinkNotice) (routed : List RoutedNotice)
     (steps : List NetworkStep) (notice : LinkNotice) (route : Option Route)
     (more : List NetworkStep) → AreRouted paths front routed steps
-    → IsRouteTo (host_to_route paths notice) route more
+    → AsksForRoute (host_to_route paths notice) route more
     → AreRouted paths (front ++ notice ∷ [])
     (routed ++ record { notice = notice; route = route } ∷ []) (steps ++ more)
 notice_more paths [] routed steps notice route more h is = (
@@ -146,7 +148,7 @@ pub notice_at : (paths : List Path) (notices : List LinkNotice) (place : ℕ) (d
     (routed after : List RoutedNotice) (steps : List NetworkStep) (route : Option Route)
     (more : List NetworkStep) → place < length notices
     → AreRouted paths (take place notices) routed steps
-    → IsRouteTo (host_to_route paths (get_or notices place d)) route more
+    → AsksForRoute (host_to_route paths (get_or notices place d)) route more
     → after ≡ routed ++ record { notice = get_or notices place d; route = route } ∷ []
     → AreRouted paths (take (place + 1) notices) after (steps ++ more)
 notice_at paths notices place d routed after steps route more inside are is pushed =

@@ -1,5 +1,6 @@
 -- Steps behind steps, where the system tells.
-use Rattle.std.proofs.Common.{◌≡◌, ℕ, Bool, true, false, List, [], ◌∷◌, ◌++◌, ◌∙◌, ap, sym, refl, append-nil}
+use Rattle.std.proofs.Common.{◌≡◌, ℕ, Bool, true, false, List, [], ◌∷◌, ◌++◌, ◌∙◌, ap, sym, refl}
+use Rattle.std.proofs.Common.{append-nil}
 use Rattle.std.proofs.Common.{append_assoc}
 use Rattle.std.specs.Prelude.{IfNone, IfSome, Option, Some, None, Result}
 use Rattle.std.specs.declared.io.ErrorKind.{ErrorKind}

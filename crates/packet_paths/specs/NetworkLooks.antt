@@ -64,7 +64,8 @@ abbrev pub IsLookAlong : Bool → CardAddress → Bool → Bool → Path → Pat
 IsLookAlong false source has_link is_any_route before after steps =
     (after ≡ record before { has_link = has_link }) × (steps ≡ [])
 IsLookAlong true source has_link is_any_route before after steps =
-    (route : Option (List ℕ)) × (table : Option Route) × IsFound route source before.route after.route
+    (route : Option (List ℕ)) × (table : Option Route)
+    × IsFound route source before.route after.route
     × (after ≡ with_route (toward route (record before { has_link = has_link }) table) after.route
     source is_any_route)
     × (steps ≡ Ask (question.Source before.host route) ∷ taker_questions route before table

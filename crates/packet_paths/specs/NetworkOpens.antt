@@ -120,36 +120,36 @@ with_found (Ok path) paths = paths ++ path ∷ []
 with_found (Err fault) paths = paths
 
 -- a target: its host is reached, unless there is a path to it
-abbrev pub IsTaken : Option ℕ → Leaving → List ℕ → List Source → List Path → List Source
+abbrev pub IsTargetReached : Option ℕ → Leaving → List ℕ → List Source → List Path → List Source
     → List Path → Result (Unit {0}) OpenFault → List NetworkStep → Type 0
-IsTaken (Some place) leaving host sources paths sources_after paths_after answer steps =
+IsTargetReached (Some place) leaving host sources paths sources_after paths_after answer steps =
     (sources_after ≡ sources) × (paths_after ≡ paths) × (answer ≡ Ok tt) × (steps ≡ [])
-IsTaken None leaving host sources paths sources_after paths_after answer steps =
+IsTargetReached None leaving host sources paths sources_after paths_after answer steps =
     (path : Result Path OpenFault) × IsReached leaving host sources sources_after path steps
     × (paths_after ≡ with_found path paths) × (answer ≡ reach_answer path)
 
 -- THE TARGETS, each in its turn: so there is one path for each host, and one source for each
 -- address
-abbrev pub AreTaken : Leaving → List Target → List Source → List Path → List Source → List Path
-    → List NetworkStep → Type 0
-AreTaken leaving [] sources paths sources_after paths_after steps =
+abbrev pub AreTargetsReached : Leaving → List Target → List Source → List Path → List Source
+    → List Path → List NetworkStep → Type 0
+AreTargetsReached leaving [] sources paths sources_after paths_after steps =
     (sources_after ≡ sources) × (paths_after ≡ paths) × (steps ≡ [])
-AreTaken leaving (target ∷ behind) sources paths sources_after paths_after steps =
+AreTargetsReached leaving (target ∷ behind) sources paths sources_after paths_after steps =
     (middle : List Source) × (between : List Path) × (first more : List NetworkStep)
-    × IsTaken (path_place paths target.address.host) leaving target.address.host sources paths
-    middle between (Ok tt) first
-    × AreTaken leaving behind middle between sources_after paths_after more
+    × IsTargetReached (path_place paths target.address.host) leaving target.address.host sources
+    paths middle between (Ok tt) first
+    × AreTargetsReached leaving behind middle between sources_after paths_after more
     × (steps ≡ first ++ more)
 
--- A NIGHT'S NETWORK IS OPENED: all targets are taken
+-- A NIGHT'S NETWORK IS OPENED: all targets are reached
 pub record IsOpen (leaving : Leaving) (targets : List Target) (night : NightPaths)
     (steps : List NetworkStep) : Type 0 where
-  pub taken : AreTaken leaving targets [] [] night.sources.items night.paths.items steps
+  pub taken : AreTargetsReached leaving targets [] [] night.sources.items night.paths.items steps
   pub leaves : night.leaving ≡ leaving
   pub nothing_lost : night.failure ≡ None
 
--- it is not: those before a place are taken, and the host of the target there is not reached, since
--- a socket is not had. No other is tried
+-- it is not: those before a place are reached, and the host of the target there is not, since a
+-- socket is not had. No other is tried
 pub record IsNotOpen (leaving : Leaving) (targets : List Target) (fault : OpenFault)
     (steps : List NetworkStep) : Type 0 where
   pub place : ℕ
@@ -161,7 +161,7 @@ pub record IsNotOpen (leaving : Leaving) (targets : List Target) (fault : OpenFa
   pub first : List NetworkStep
   pub last : List NetworkStep
   pub stands : slice_get targets place ≡ Some target
-  pub taken : AreTaken leaving (take place targets) [] [] sources paths first
-  pub fails : IsTaken (path_place paths target.address.host) leaving target.address.host sources
-      paths sources_after paths_after (Err fault) last
+  pub taken : AreTargetsReached leaving (take place targets) [] [] sources paths first
+  pub fails : IsTargetReached (path_place paths target.address.host) leaving target.address.host
+      sources paths sources_after paths_after (Err fault) last
   pub in_order : steps ≡ first ++ last

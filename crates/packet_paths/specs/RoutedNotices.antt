@@ -19,16 +19,16 @@ host_to_route paths (notice.Path place news) =
     then option_map (λ path. path.host) (slice_get paths place) else None
 
 -- the main table is asked for the route to that host, and not where there is none
-abbrev pub IsRouteTo : Option (List ℕ) → Option Route → List NetworkStep → Type 0
-IsRouteTo None route steps = (route ≡ None) × (steps ≡ [])
-IsRouteTo (Some host) route steps = steps ≡ Ask (question.Route host route) ∷ []
+abbrev pub AsksForRoute : Option (List ℕ) → Option Route → List NetworkStep → Type 0
+AsksForRoute None route steps = (route ≡ None) × (steps ≡ [])
+AsksForRoute (Some host) route steps = steps ≡ Ask (question.Route host route) ∷ []
 
 -- THE NOTICES, each in its turn with the route to its host
 abbrev pub AreRouted : List Path → List LinkNotice → List RoutedNotice → List NetworkStep → Type 0
 AreRouted paths [] routed steps = (routed ≡ []) × (steps ≡ [])
 AreRouted paths (notice ∷ behind) routed steps = (route : Option Route)
     × (others : List RoutedNotice) × (first more : List NetworkStep)
-    × IsRouteTo (host_to_route paths notice) route first
+    × AsksForRoute (host_to_route paths notice) route first
     × AreRouted paths behind others more
     × (routed ≡ record { notice = notice; route = route } ∷ others)
     × (steps ≡ first ++ more)

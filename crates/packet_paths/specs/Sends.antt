@@ -111,7 +111,8 @@ abbrev pub failure_after : Option (Address × ErrorKind) → Address → Result 
 failure_after before to (Ok sent) = before
 failure_after before to (Err reason) = Some (to, reason)
 
--- A PACKET. First the look, and then the offer, by the paths as that left them; nothing else is done
+-- A PACKET. First the look, and then the offer, by the paths as that left them; nothing else is
+-- done
 pub record IsSent (to : Address) (bytes : List ℕ) (before after : NightPaths)
     (answer : Result (Unit {0}) ErrorKind) (steps : List NetworkStep) : Type 0 where
   pub looked : NightPaths

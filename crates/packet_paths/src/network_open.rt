@@ -2,7 +2,7 @@ ghost use Rattle.std.specs.Prelude.{◌≡◌, ◌≤◌, ◌<◌, ◌+◌, ◌+
 ghost use Rattle.std.specs.declared.io.ErrorKind.{ErrorKind as Kind};
 ghost use Rattle.packet_paths.specs.NetworkOpens.{IsNewPathLook, IsNewSource, IsNotOpen, IsOpen};
 ghost use Rattle.packet_paths.specs.Hosts.{path_place};
-ghost use Rattle.packet_paths.specs.NetworkOpens.{IsReached, IsSource, IsTaken};
+ghost use Rattle.packet_paths.specs.NetworkOpens.{IsReached, IsSource, IsTargetReached};
 ghost use Rattle.packet_paths.specs.NetworkOpens.{first_source, new_source, source_place};
 ghost use Rattle.packet_paths.specs.NetworkSteps.{NetworkStep};
 
@@ -63,7 +63,7 @@ fn take_host<S: NetworkSystem>(
     ensures told { S.tells system.new → S.tells system.old }
     ensures room { length paths.new.items ≤ length paths.old.items + 1 }
     ensures taken { (steps : List NetworkStep)
-        × IsTaken (path_place paths.old.items host) leaving.now host sources.old.items
+        × IsTargetReached (path_place paths.old.items host) leaving.now host sources.old.items
         paths.old.items sources.new.items paths.new.items result steps
         × (S.tells system.new → S.steps system.new ≡ S.steps system.old ++ steps) }
 {

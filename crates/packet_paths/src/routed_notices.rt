@@ -1,6 +1,6 @@
 ghost use Rattle.std.specs.Prelude.{◌≡◌, ◌≤◌, ◌++◌, List, length};
 ghost use Rattle.packet_paths.specs.NetworkSteps.{NetworkStep};
-ghost use Rattle.packet_paths.specs.RoutedNotices.{AreRouted, IsRouteTo, host_to_route};
+ghost use Rattle.packet_paths.specs.RoutedNotices.{AreRouted, AsksForRoute, host_to_route};
 
 use crate::night_paths::NightPaths;
 use crate::path::Path;
@@ -48,7 +48,7 @@ impl NightPaths {
     fn route_of<S: RouteSystem>(&self, system: &mut S, notice: &LinkNotice) -> Option<Route>
         ensures told { S.tells system.new → S.tells system.old }
         ensures route { (steps : List NetworkStep)
-            × IsRouteTo (host_to_route self.now.paths.items notice.now) result steps
+            × AsksForRoute (host_to_route self.now.paths.items notice.now) result steps
             × (S.tells system.new → S.steps system.new ≡ S.steps system.old ++ steps) }
     {
         let host = host_to_route(notice, self.paths.as_slice())?;

@@ -42,8 +42,8 @@ abbrev pub cid_rule : List ℕ
 cid_rule = codes "uuidgen prints one"
 
 -- a night that has ended
-abbrev pub over : List ℕ
-over = codes "the night has ended"
+abbrev pub night_over : List ℕ
+night_over = codes "the night has ended"
 
 -- a line of this number that does not follow from those before it
 abbrev pub unlike_line : ℕ → List ℕ

@@ -17,8 +17,8 @@ no_target universe = remark_of (codes "universe " ∷ decimal universe
     ∷ codes " has no target: --to names none for it, and none for all" ∷ [])
 
 -- a universe has one twice
-abbrev pub twice : ℕ → Address → List ℕ
-twice universe address = remark_of (codes "universe " ∷ decimal universe
+abbrev pub target_twice : ℕ → Address → List ℕ
+target_twice universe address = remark_of (codes "universe " ∷ decimal universe
     ∷ codes " has the target " ∷ host_text address.host ∷ codes ":" ∷ decimal address.port
     ∷ codes " twice" ∷ [])
 
@@ -26,4 +26,4 @@ twice universe address = remark_of (codes "universe " ∷ decimal universe
 abbrev pub of_target : TargetMisfit → List ℕ
 of_target (NoUniverse universe) = no_universe universe
 of_target (NoTarget universe) = no_target universe
-of_target (Twice universe address) = twice universe address
+of_target (Twice universe address) = target_twice universe address

@@ -4,9 +4,9 @@ ghost use Rattle.remarks.specs.Remarks.{remark_of};
 ghost use Rattle.remarks.specs.Refusals.{IsUnfit, IsUnfitMain, Rejects, cid_parts, cid_rule};
 ghost use Rattle.remarks.specs.Refusals.{has_night, in_use, line_rule};
 ghost use Rattle.remarks.specs.Refusals.{main_line_rule, main_rule, name_parts, no_record};
-ghost use Rattle.remarks.specs.Refusals.{number_parts, other_line, other_parts, over, record_rule};
-ghost use Rattle.remarks.specs.Refusals.{refusal_line, shared_cid, show_parts, spare_line_rule};
-ghost use Rattle.remarks.specs.Refusals.{unlike_line, use_rule};
+ghost use Rattle.remarks.specs.Refusals.{night_over, number_parts, other_line, other_parts};
+ghost use Rattle.remarks.specs.Refusals.{record_rule, refusal_line, shared_cid, show_parts};
+ghost use Rattle.remarks.specs.Refusals.{spare_line_rule, unlike_line, use_rule};
 ghost use Rattle.remarks.specs.TextLines.{of_line};
 
 use crate::name::of_name;
@@ -67,7 +67,7 @@ impl Refusal {
 
     /// The main's record has come to the end of its night.
     pub fn main_is_over() -> Refusal
-        ensures { Rejects over (remark_of (codes "a backup follows a night that is on" ∷ []))
+        ensures { Rejects night_over (remark_of (codes "a backup follows a night that is on" ∷ []))
             result }
     {
         by_rule(
@@ -151,8 +151,8 @@ impl Refusal {
     }
 
     /// The night of the record came to its end.
-    pub fn over() -> Refusal
-        ensures { Rejects over (remark_of (codes "give another FILE for the next night" ∷ []))
+    pub fn night_is_over() -> Refusal
+        ensures { Rejects night_over (remark_of (codes "give another FILE for the next night" ∷ []))
             result }
     {
         by_rule(

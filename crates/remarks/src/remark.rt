@@ -1,9 +1,10 @@
 ghost use Rattle.std.specs.Prelude.{◌≡◌, ◌++◌, [], ◌∷◌, codes, map, take};
-ghost use Rattle.cmd_explain.specs.Skipped.{display_byte, display_text};
+ghost use Rattle.cmd_explain.specs.Skipped.{display_text};
 ghost use Rattle.remarks.specs.Remarks.{excerpt, of_device, of_seeming, refused_line, remark_of};
 ghost use Rattle.remarks.specs.Remarks.{seeming_line};
 
 use arrayvec::ArrayVec;
+use cmd_explain::display_byte;
 use live_machine::reason;
 use std::io::ErrorKind;
 
@@ -114,15 +115,5 @@ fn push_all(remark: &mut Remark, bytes: &[u8])
     let fitting = &bytes[..bytes.len().min(room)];
     for byte in fitting {
         remark.push(display_byte(*byte));
-    }
-}
-
-fn display_byte(byte: u8) -> u8
-    ensures { result ≡ display_byte byte }
-{
-    match byte {
-        b'\t' | b'\r' => b' ',
-        b' '..=b'~' => byte,
-        _ => b'?',
     }
 }

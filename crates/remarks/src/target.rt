@@ -1,5 +1,5 @@
 ghost use Rattle.std.specs.Prelude.{◌≡◌};
-ghost use Rattle.remarks.specs.Targets.{no_target, no_universe, of_target, twice};
+ghost use Rattle.remarks.specs.Targets.{no_target, no_universe, of_target, target_twice};
 
 use crate::remark::{Remark, join, part};
 use itoa::Buffer;
@@ -13,7 +13,7 @@ pub fn of_target(misfit: TargetMisfit) -> Remark
     match misfit {
         TargetMisfit::NoUniverse { universe } => no_universe(universe),
         TargetMisfit::NoTarget { universe } => no_target(universe),
-        TargetMisfit::Twice { universe, address } => twice(universe, address),
+        TargetMisfit::Twice { universe, address } => target_twice(universe, address),
     }
 }
 
@@ -39,8 +39,8 @@ fn no_target(universe: u16) -> Remark
     ])
 }
 
-fn twice(universe: u16, address: Address) -> Remark
-    ensures { result.items ≡ twice universe address }
+fn target_twice(universe: u16, address: Address) -> Remark
+    ensures { result.items ≡ target_twice universe address }
 {
     let mut buffers = (Buffer::new(), Buffer::new());
     let host = host_text(address.host);

@@ -36,7 +36,8 @@ NeverFall (a ∷ older) = (last_arrival older ≤ a.moment) × NeverFall older
 -- or one that is not meant for the universe's stage
 abbrev pub not_heard : ℕ → List ℕ → Option Ignored
 not_heard universe datagram =
-    option_or (option_map Unreadable (fault_of datagram)) (off_reason universe (front_packet datagram))
+    option_or (option_map Unreadable (fault_of datagram))
+    (off_reason universe (front_packet datagram))
 
 -- it is heard: there is a packet of the universe in it, with data for the stage
 abbrev pub is_heard : ℕ → Arrival → Bool

@@ -1,4 +1,5 @@
-ghost use Rattle.std.specs.Prelude.{◌≡◌, ◌≤◌, ◌+◌, ◌∷◌, [], length, false, min, take, IfSome, IsNone};
+ghost use Rattle.std.specs.Prelude.{◌≡◌, ◌≤◌, ◌+◌, ◌∷◌, [], length, false, min, take, IfSome};
+ghost use Rattle.std.specs.Prelude.{IsNone};
 
 use super::kept::copy;
 use night_record::LineFront;

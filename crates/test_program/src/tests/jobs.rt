@@ -1,6 +1,6 @@
 use devices::memory::{MemoryFeed, MemoryOutput};
 use job_devices::{
-    LockAnswer, MemoryJobOutput, MemoryPlay, PlayAnswers, PlayStep, play_from_lines,
+    JobOutput, LockAnswer, MemoryJobOutput, MemoryPlay, PlayAnswers, PlayStep, play_from_lines,
 };
 use memory_steps::MemorySteps;
 use show_jobs::{check_show, list_cues};
@@ -38,7 +38,7 @@ fn a_check_prints_its_counts(rt: HostRuntime) {
 fn an_output_that_fails_ends_a_job(rt: HostRuntime) {
     let mut out = output(rt.alloc(), 1);
     assert!(rt; list_cues(rt.alloc(), SHOW, false, &mut out).is_err());
-    assert!(rt; out.failure == Some(ErrorKind::BrokenPipe));
+    assert!(rt; out.failure() == Some(ErrorKind::BrokenPipe));
 }
 
 #[test]

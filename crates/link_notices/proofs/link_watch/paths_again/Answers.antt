@@ -7,7 +7,8 @@ pub loop-place-preserved : goal.loop-place-preserved
 loop-place-preserved c =
     let again = path_again c.args.look.now.sources.items c.args.watches.now in
     let path = c.path-item.result in
-    let told : path_notice c.loop-place.place c.again-notice.result ≡ again (c.loop-place.place, path)
+    let told : path_notice c.loop-place.place c.again-notice.result
+    ≡ again (c.loop-place.place, path)
     = rw (c.again-notice.ensures, c.path_at.ensures, c.has_link.ensures) refl in
     record {
       notices = pushed_more again c.loop-place.notices.items c.args.notices.now.items _ _

@@ -36,6 +36,6 @@ returns-in-Err-clause-takes g c =
     inr (record {
       number = c.in-Err.line;
       first = c.in-Err.ensures.stops;
-      told = subst (λ n. Rejects (unlike_line n) (of_line n c.args.text.now line_rule) c.line.result)
-          sum c.line.ensures;
+      told = subst (λ n. Rejects (unlike_line n) (of_line n c.args.text.now line_rule)
+          c.line.result) sum c.line.ensures;
     })

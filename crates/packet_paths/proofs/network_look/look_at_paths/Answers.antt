@@ -23,8 +23,8 @@ loop-path-preserved g c =
         subst (λ paths. ArePathsFound leaving paths before c.push.new.self.items after
             (steps ++ more))
             (one_more paths place path c.loop-path-test.true c.path-item.is)
-            (subst (λ found. ArePathsFound leaving (take place paths ++ path ∷ []) before found after
-            (steps ++ more)) (sym c.push.ensures.items)
+            (subst (λ found. ArePathsFound leaving (take place paths ++ path ∷ []) before found
+            after (steps ++ more)) (sym c.push.ensures.items)
             (path_more leaving (take place paths) before c.loop-path.found.items
             c.loop-path.sources.items steps path c.look_at_path.result after more are is)),
         behind S.tells S.steps c.args.system.now c.loop-path.system c.look_at_path.new.system steps

@@ -94,7 +94,8 @@ returns-clause-reached g c =
                     refl,
                     subst (λ p. IsNewPathLook (first_source after p) route any p path looked)
                         c.new-path.ensures
-                        (subst (λ s. IsNewPathLook s route any c.new-path.result path looked) from first),
+                        (subst (λ s. IsNewPathLook s route any c.new-path.result path looked)
+                        from first),
                   ),
               refl,
             ),

@@ -3,7 +3,7 @@ use Rattle.std.proofs.lemmas.List.{take_more}
 use Rattle.std.proofs.lemmas.Option.{slice_get-get_or}
 use Rattle.std.specs.Prelude.{Err, IfErr, List, Some, slice_get}
 use Rattle.packet_paths.specs.Hosts.{path_place}
-use Rattle.packet_paths.specs.NetworkOpens.{AreTaken, IsNotOpen, IsTaken}
+use Rattle.packet_paths.specs.NetworkOpens.{AreTargetsReached, IsNotOpen, IsTargetReached}
 use Rattle.packet_paths.specs.NetworkSteps.{NetworkStep}
 use Rattle.packet_paths.proofs.InTurn.{no_target, target_more}
 use Rattle.packet_paths.proofs.StepsInOrder.{behind}
@@ -26,15 +26,15 @@ loop-target-preserved g c =
       room = omega (arith, c.take_host.ensures.room, c.loop-target.invariant.room);
       taken = (
         steps ++ more,
-        subst (λ targets. AreTaken leaving (take (place + 1) targets) [] [] after found
+        subst (λ targets. AreTargetsReached leaving (take (place + 1) targets) [] [] after found
             (steps ++ more)) c.as_slice-target-items.ensures.value
-            (subst (λ targets. AreTaken leaving targets [] [] after found (steps ++ more))
+            (subst (λ targets. AreTargetsReached leaving targets [] [] after found (steps ++ more))
             (sym (take_more items place no_target c.loop-target-test.true))
             (target_more leaving (take place items) [] [] middle between steps target after found
             more
-            (subst (λ targets. AreTaken leaving (take place targets) [] [] middle between steps)
-            (sym c.as_slice-target-items.ensures.value) are)
-            (subst (λ answer. IsTaken (path_place between target.address.host) leaving
+            (subst (λ targets. AreTargetsReached leaving (take place targets) [] [] middle between
+            steps) (sym c.as_slice-target-items.ensures.value) are)
+            (subst (λ answer. IsTargetReached (path_place between target.address.host) leaving
             target.address.host middle between after found answer more) c.in_ok-take_host.was is))),
         behind S.tells S.steps c.args.system.now c.loop-target.system c.take_host.new.system steps
             more c.take_host.ensures.told told told_one,
@@ -75,7 +75,7 @@ returns-in_err-take_host-clause-err g c =
             c.as_slice-target-items.ensures.value
             (slice_get-get_or items place no_target c.loop-target-test.true);
         taken = are;
-        fails = subst (λ answer. IsTaken (path_place between target.address.host) leaving
+        fails = subst (λ answer. IsTargetReached (path_place between target.address.host) leaving
             target.address.host middle between after found answer last) c.in_err-take_host.was is;
         in_order = refl;
       },

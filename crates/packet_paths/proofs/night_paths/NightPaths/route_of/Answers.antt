@@ -1,7 +1,7 @@
 use Rattle.std.proofs.Common.{◌≡◌, ◌∙◌, ◌∷◌, [], ap, refl, subst, sym}
 use Rattle.std.specs.Prelude.{Some}
 use Rattle.packet_paths.specs.NetworkSteps.NetworkStep.{Ask}
-use Rattle.packet_paths.specs.RoutedNotices.{IsRouteTo, host_to_route}
+use Rattle.packet_paths.specs.RoutedNotices.{AsksForRoute, host_to_route}
 use Rattle.packet_paths.specs.declared.system.Question.TheVariants as question
 use Rattle.packet_paths.proofs.night_paths.NightPaths.route_of.Goals as goal
 
@@ -15,6 +15,6 @@ returns-clause-route g c =
     ap (λ paths. host_to_route paths notice) (sym c.as_slice.ensures.value)
     ∙ sym c.host_to_route.ensures ∙ c.in_ok-host.was in (
       asked,
-      subst (λ host. IsRouteTo host route asked) (sym is) refl,
+      subst (λ host. AsksForRoute host route asked) (sym is) refl,
       c.route_to.ensures.question,
     )
