@@ -112,7 +112,7 @@ ends_line (Some text) (Some rest) (Some last) line n byte b g e =
     let within : length line ≤ 160 = omega (arith, b.long) in (
       omega (arith, b.count, one),
       sym (b.front ∙ ap (λ l. take 160 (line ++ map shown_byte l)) before
-      ∙ cut-all 160 line within),
+          ∙ cut-all 160 line within),
       ap Some (sym (b.behind ∙ behind)),
     )
 
@@ -128,7 +128,7 @@ ends_text (Some text) (Some rest) (Some last) line n b g h =
     let within : length line ≤ 160 = omega (arith, b.long) in (
       omega (arith, b.count, b.long),
       sym (b.front ∙ ap (λ l. take 160 (line ++ map shown_byte l)) before
-      ∙ cut-all 160 line within),
+          ∙ cut-all 160 line within),
       ap Some (g.0 ∙ g.1 ∙ sym (b.behind ∙ behind)),
     )
 

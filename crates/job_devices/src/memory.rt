@@ -83,10 +83,7 @@ impl<'a> MemoryJobSource<'a> {
         ensures source { result.source ≡ source.entry }
         ensures kind { result.kind ≡ kind }
     {
-        MemoryJobSource {
-            source,
-            kind,
-        }
+        MemoryJobSource { source, kind }
     }
 }
 
@@ -107,7 +104,7 @@ impl Datagrams for MemoryJobSource<'_> {
 
 impl JobSource for MemoryJobSource<'_> {
     ghost reason = { λ m. if m.source.faults.failed == 0 && not m.source.exhausted then None
-      else Some m.kind };
+        else Some m.kind };
 
     fn failure(&self) -> Option<ErrorKind> {
         if self.source.faults.failed == 0 && !self.source.exhausted {
