@@ -21,7 +21,7 @@ use Rattle.night_record.specs.NightOpening.{IsNightOpening, goes_on, lines_of_ni
 use Rattle.night_record.specs.declared.head.RecordHead.{RecordHead}
 use Rattle.night_record.specs.declared.night_opening.NightOpening.{NightOpening}
 use Rattle.night_record.specs.declared.unfit.Unfit.{Unfit}
-use Rattle.remarks.specs.Refusals.{IsUnfit, Rejects, has_night, line_rule, over, unlike_line}
+use Rattle.remarks.specs.Refusals.{IsUnfit, Rejects, has_night, line_rule, night_over, unlike_line}
 use Rattle.remarks.specs.Remarks.{remark_of}
 use Rattle.remarks.specs.TextLines.{of_line}
 use Rattle.remarks.specs.declared.failure.JobFault.{JobFault}
@@ -96,7 +96,7 @@ HasEnded night ended = (happened : List Happening) → live.StandsFor night.inpu
 abbrev pub IsStillOn : {F : Type 0} → Night F → Result Unit Refusal → Type 0
 IsStillOn night (Ok done) = HasEnded night false
 IsStillOn night (Err refusal) = HasEnded night true
-    × Rejects over (remark_of (codes "give another FILE for the next night" ∷ [])) refusal
+    × Rejects night_over (remark_of (codes "give another FILE for the next night" ∷ [])) refusal
 
 -- the line of this number does not follow from those that were taken up. In the text it stands
 -- behind the two of the head
