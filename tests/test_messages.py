@@ -187,15 +187,37 @@ class Messages(unittest.TestCase):
             told = [b"device fault", b"the record's file is not empty: --resume goes on with it"]
             self.assertEqual((5, told), run(*words))
 
+    def test_no_text(self):
+        """What a file without cues seems to be, where it is played too."""
+        seems = b"the show has no cue, and its file seems to be a picture (PNG)"
+        told = seems + b": check the file's name and how it was saved"
+        with tempfile.TemporaryDirectory() as name:
+            show = Path(name) / "show"
+            show.write_bytes(b"\x89PNG\r\n\x1a\n")
+            for words in (("check", show), ("play", show, *TO_NOBODY)):
+                self.assertEqual((0, [told]), run(*words))
+
     @unittest.skipUnless(Path("/dev/full").exists(), "no full disk")
     def test_full_disk(self):
         told = [b"device fault", b"standard output: the disk is full"]
-        with open("/dev/full", "wb") as full:
-            words = [PROGRAM, "check", "-"]
-            done = subprocess.run(
-                words, input=SHOW, stdout=full, stderr=subprocess.PIPE, timeout=60
-            )
-        self.assertEqual((5, told), (done.returncode, done.stderr.splitlines()))
+        with tempfile.TemporaryDirectory() as name:
+            show = Path(name) / "show"
+            show.write_bytes(SHOW)
+            for words, stdin in (
+                (["check", "-"], SHOW),
+                (["cues", "-"], SHOW),
+                (["look", "-", "1", "--cid", CID], SHOW),
+                (["play", show, *TO_NOBODY], b"0 go\n"),
+            ):
+                with self.subTest(words), open("/dev/full", "wb") as full:
+                    done = subprocess.run(
+                        [PROGRAM, *words],
+                        input=stdin,
+                        stdout=full,
+                        stderr=subprocess.PIPE,
+                        timeout=60,
+                    )
+                    self.assertEqual((5, told), (done.returncode, done.stderr.splitlines()))
 
     def test_addresses(self):
         with socket.socket(socket.AF_INET, socket.SOCK_DGRAM) as held:
