@@ -2,6 +2,7 @@
 CID, and goes on by itself when the main is silent."""
 
 import os
+import re
 import subprocess
 import tempfile
 import time
@@ -112,6 +113,7 @@ class Leads(FollowTest):
         self.assertEqual(TERMINATED, backup.heard[-1].packet[OPTIONS] & TERMINATED)
         self.assertTold(
             backup,
+            rb"record: %b\n" % re.escape(os.fsencode(backup.record)),
             rb"follows: .*, of CID %b, priority 100, at 0:00:\d\d of the night, " % CID.encode(),
             rb"0:00:\d\d the main has ended the night\n",
         )

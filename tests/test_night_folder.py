@@ -125,9 +125,12 @@ class Goes(FolderNightTest):
         os.kill(first, signal.SIGKILL)
         self.wait_for_reply(rf"the spare \(process {first}\) is gone: another stands by$")
         wait_for(lambda: self.number("spare") != first, "another spare")
-        second, live = self.spare(), self.number("pid")
+        second, live, keeper = self.spare(), self.number("pid"), self.number("lock")
+        # No third spare begins between the two.
+        os.kill(keeper, signal.SIGSTOP)
         for number in (second, live):
             os.kill(number, signal.SIGKILL)
+        os.kill(keeper, signal.SIGCONT)
         numbers += self.wait_for_level(128)
         self.wait_for_reply(rf"live \(process {live}\) was ended by SIGKILL: {GO_ON}$")
         self.assertEqual((0, ["ok"]), self.without_moments("sub", "1", "H92"))

@@ -265,10 +265,15 @@ class Refused(RestartTest):
             self.assertRefused(f"in use by process {os.getpid()}")
 
     def test_fifo(self):
-        """It cannot be read again: no night goes on in it."""
+        """It cannot be read again: no night goes on in it, and what lies there stays."""
+        written = self.record.read_bytes()
         self.record.unlink()
         os.mkfifo(self.record)
-        outcome = run(*self.words("--record", self.record, "--resume"), stdin=b"go\n")
+        with open(self.record, "r+b", buffering=0) as pipe:
+            pipe.write(written)
+            outcome = run(*self.words("--record", self.record, "--resume"), stdin=b"go\n")
+            os.set_blocking(pipe.fileno(), False)
+            self.assertEqual(written, pipe.read(len(written) + 1))
         self.assertEqual((4, b""), (outcome.status, outcome.out))
         self.assertTrue(outcome.err.startswith(b"record: no record of live\n"), outcome.err)
         self.assertEqual([], self.came())
