@@ -19,6 +19,8 @@ ONE_TICK = b"0 goto 1\n10 tick\n"
 SOON = 2000
 # For so many seconds it is looked whether packets come: a stage that stands still has one in 0.8.
 DURING = 1.2
+# In so many seconds the packets of a tick are there, also on a machine that is busy.
+A_TICK = 0.1
 
 
 def groups(*numbers):
@@ -526,14 +528,16 @@ class Staying(CardsTest):
         return int(re.search(r"(?m)^lost (\d+)$", "\n".join(told))[1])
 
     def to_a_node(self, kept, lines):
-        """Each packet from the change on is counted as lost."""
+        """Each packet from the change on is counted as lost, and comes nowhere."""
         venue = Venue(kept)
         record = self.folder / f"{venue.console.name}.play"
         cid = str(uuid.uuid4())
         night, came = self.fading(kept, venue, "--to", STAGE, "--record", record, cid=cid)
         venue.console.ip(*lines)
+        time.sleep(A_TICK)
+        came += venue.stage.came(0)
         lost = self.assertStays(venue, night)
-        came += venue.stage.came()
+        self.assertEqual([], venue.stage.came())
         self.assertEqual(self.offered(venue, record, cid), len(came) + lost)
 
     def offered(self, venue, record, cid):
