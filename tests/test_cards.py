@@ -14,6 +14,8 @@ from wire import SLOT_1
 
 SHOW = text("CUE 1", "UP 0", "CHAN 1@H80", "PATCH 1 1<1@FL 1<513@FL")
 MULTICAST = "239.255.0.0"
+# That of universe 1.
+GROUP = "239.255.0.1"
 ONE_TICK = b"0 goto 1\n10 tick\n"
 # A trouble is told within so many milliseconds.
 SOON = 2000
@@ -167,7 +169,7 @@ class Starts(CardsTest):
 
     def test_start(self):
         cases = (self.named, self.default_route, self.local_route, self.several, self.one_card)
-        self.side_by_side(*cases, self.many_routes, self.tied_socket)
+        self.side_by_side(*cases, self.many_routes, self.tied_socket, self.joined_group)
 
     def named(self, kept):
         """By either form of the word."""
@@ -214,6 +216,16 @@ class Starts(CardsTest):
         by_office = f"from {EVERYDAY} (eth0), the route to 10.101.1.0/24"
         by_stage = f"from {LIT} (lit), the route to 10.101.2.0/24"
         self.assertFrom(night, by_stage, by_office)
+
+    def joined_group(self, kept):
+        """A group that a card has joined by an address of its own is no card, and no address of
+        one."""
+        venue = Venue(kept)
+        joined = (f"addr add {GROUP}/32 dev lit autojoin", "route add 224.0.0.0/4 dev lit")
+        venue.console.ip(*joined)
+        night = Night(kept, venue, self.show, "--to", MULTICAST)
+        others = f"other cards: eth0 ({EVERYDAY}); --interface eth0 sends by it"
+        self.assertFrom(night, f"from {LIT} (lit), the route to 224.0.0.0/4", others)
 
     def one_card(self, kept):
         """Where there is no other card with an address, none is told of."""
@@ -609,6 +621,7 @@ class Refusals(CardsTest):
             "link add plugged type veth peer name socket",
             "link set plugged up",
             "link set socket up",
+            f"addr add {GROUP}/32 dev lit autojoin",
         )
         for word, told in (
             ("eth7", f"no card eth7: {self.CARDS}"),
@@ -617,6 +630,7 @@ class Refusals(CardsTest):
             ("bare", f"bare has no link and no address: check the cable; {self.CARDS}"),
             ("other", f"other is down: ip link set other up; {self.CARDS}"),
             (STAGE, f"no card has {STAGE}: {self.CARDS}"),
+            (GROUP, f"no card has {GROUP}: {self.CARDS}"),
         ):
             self.assertRefused(venue, told, "--to", MULTICAST, "--interface", word)
 

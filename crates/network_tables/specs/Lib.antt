@@ -4,6 +4,7 @@ pub mod Best
 pub mod Neighbors
 pub mod NeighborRows
 pub mod Cards
+pub mod Groups
 pub mod Trees
 pub mod Holders
 pub mod Tables

@@ -6,6 +6,7 @@ use Rattle.std.specs.Net.Addr.{ipv4_octets}
 use Rattle.std.specs.Net.Grammar.{IsIpv4Text}
 use Rattle.std.specs.declared.net.ipv4_addr.Ipv4Addr.{Ipv4Addr}
 use Rattle.network_tables.specs.Fields.{field}
+use Rattle.network_tables.specs.Groups.{is_multicast}
 use Rattle.network_tables.specs.declared.tree.OwnAddresses.{OwnAddresses}
 use Rattle.network_tables.specs.declared.tree.TreeLine.{TreeLine}
 use Rattle.network_tables.specs.declared.tree.TreeLine.TheVariants as line
@@ -34,10 +35,12 @@ pub record Found : Type 0 where
 abbrev pub found_seen : OwnAddresses → Found
 found_seen own = record { leaf = own.leaf; addresses = own.addresses.items }
 
--- each address once, and of more than 64 the first
+-- each address once, but no multicast group: a card may have joined it by an address of its own,
+-- from which no packet comes; and of more than 64 the first
 abbrev pub with_address : List (List ℕ) → List ℕ → List (List ℕ)
 with_address addresses address =
-    if list_any (λ known. bytes_eq known address) addresses || nat_le 64 (length addresses)
+    if is_multicast address || (list_any (λ known. bytes_eq known address) addresses
+    || nat_le 64 (length addresses))
     then addresses else addresses ++ address ∷ []
 
 -- with the address of the leaf, where there is one

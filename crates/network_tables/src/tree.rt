@@ -4,6 +4,7 @@ ghost use Rattle.network_tables.specs.Trees.{Says, found_after, found_seen, is_l
 ghost use Rattle.network_tables.specs.Trees.{with_address};
 
 use crate::fields::field;
+use crate::group::is_multicast;
 use crate::table::MOST_CARDS;
 use arrayvec::ArrayVec;
 use std::net::Ipv4Addr;
@@ -56,7 +57,8 @@ fn is_leaf(line: &[u8]) -> bool
 pub struct OwnAddresses {
     /// The address that the last leaf names.
     pub leaf: Option<[u8; 4]>,
-    /// Each once; of more than there is room for, the first.
+    /// Each once, and no multicast group that a card has joined; of more than there is room for,
+    /// the first.
     pub addresses: ArrayVec<[u8; 4], MOST_CARDS>,
 }
 
@@ -87,7 +89,7 @@ impl OwnAddresses {
 fn add_once(addresses: &mut ArrayVec<[u8; 4], MOST_CARDS>, address: [u8; 4])
     ensures { addresses.new.items ≡ with_address addresses.old.items address }
 {
-    if !addresses.as_slice().contains(&address) {
+    if !is_multicast(address) && !addresses.as_slice().contains(&address) {
         let _ = addresses.try_push(address);
     }
 }

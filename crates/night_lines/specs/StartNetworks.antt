@@ -4,7 +4,8 @@ use Rattle.std.specs.Prelude.{List, [], ◌++◌, filter_map, map, Option, Some,
 use Rattle.std.specs.List.{find, list_any}
 use Rattle.std.specs.Option.{option_to_list}
 use Rattle.network_tables.specs.Routes.{route_seen}
-use Rattle.packet_paths.specs.Hosts.{is_multicast, is_nowhere}
+use Rattle.network_tables.specs.Groups.{is_multicast}
+use Rattle.packet_paths.specs.Hosts.{is_nowhere}
 use Rattle.packet_paths.specs.declared.path.Path.{Path}
 use Rattle.night_lines.specs.OtherCards.{other_cards_line}
 use Rattle.night_lines.specs.Routes.{no_route_line, origin_line}

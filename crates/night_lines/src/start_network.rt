@@ -1,7 +1,7 @@
 ghost use Rattle.std.specs.Prelude.{◌≡◌, ◌++◌, filter_map, map};
 ghost use Rattle.std.specs.List.{list_any};
 ghost use Rattle.std.specs.Option.{option_to_list};
-ghost use Rattle.packet_paths.specs.Hosts.{is_multicast};
+ghost use Rattle.network_tables.specs.Groups.{is_multicast};
 ghost use Rattle.night_lines.specs.StartNetworks as spec;
 
 use crate::night_source::{NightSource, NightSources};
@@ -10,8 +10,8 @@ use crate::sources::{OriginLine, no_route_line, origin_line};
 use crate::teller::LineTeller;
 use arrayvec::ArrayVec;
 use link_notices::MOST_SOURCES;
-use network_tables::Cards;
-use packet_paths::{Path, is_multicast};
+use network_tables::{Cards, is_multicast};
+use packet_paths::Path;
 
 /// By which cards and routes the packets of a night leave this machine, as it was found at the
 /// start.

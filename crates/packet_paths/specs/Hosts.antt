@@ -7,10 +7,6 @@ use Rattle.link_notices.specs.declared.path.PathState.{PathState}
 use Rattle.link_notices.specs.declared.path.PathState.TheVariants.{Leads, Nowhere}
 use Rattle.packet_paths.specs.declared.path.Path.{Path}
 
--- an address of a multicast group: its first number is from 224 to 239
-abbrev pub is_multicast : List ℕ → Bool
-is_multicast host = nat_le 224 (slice_index host 0) && nat_le (slice_index host 0) 239
-
 -- one that a universe can have: 239.255 and two numbers
 abbrev pub is_universe_group : List ℕ → Bool
 is_universe_group host = (slice_index host 0 == 239) && (slice_index host 1 == 255)

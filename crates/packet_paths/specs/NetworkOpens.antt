@@ -8,7 +8,8 @@ use Rattle.arrayvec.specs.declared.array_string.ArrayString.{ArrayString}
 use Rattle.link_notices.specs.declared.path.CardAddress.{CardAddress}
 use Rattle.link_notices.specs.declared.source.SourceState.TheVariants as state
 use Rattle.network_tables.specs.declared.route.Route.{Route}
-use Rattle.packet_paths.specs.Hosts.{is_multicast, new_path, path_place}
+use Rattle.network_tables.specs.Groups.{is_multicast}
+use Rattle.packet_paths.specs.Hosts.{new_path, path_place}
 use Rattle.packet_paths.specs.NetworkLooks.{tie_steps, tied_source}
 use Rattle.packet_paths.specs.NetworkSteps.{NetworkStep}
 use Rattle.packet_paths.specs.NetworkSteps.NetworkStep.{Ask, OpenSocket}

@@ -2,7 +2,7 @@
 use Rattle.std.specs.Prelude.{◌≡◌, ◌&&◌, not, List, [], ◌∷◌, ◌++◌, Result}
 use Rattle.std.specs.Prelude.{Ok, Err, Option, Some, None, map}
 use Rattle.network_tables.specs.declared.neighbor.Neighbor.{Neighbor}
-use Rattle.packet_paths.specs.Hosts.{is_multicast}
+use Rattle.network_tables.specs.Groups.{is_multicast}
 use Rattle.packet_paths.specs.NetworkLooks.{AreRowsRead, AreSourcesLooked, IsLookAlong, can_send}
 use Rattle.packet_paths.specs.NetworkLooks.{after_rows}
 use Rattle.packet_paths.specs.NetworkOpens.{IsReached}

@@ -8,7 +8,7 @@ use Rattle.packet_paths.specs.declared.path.Path.{Path}
 use Rattle.packet_paths.specs.NetworkSteps.{NetworkStep}
 use Rattle.packet_paths.specs.NetworkSteps.NetworkStep.{Ask}
 use Rattle.packet_paths.specs.declared.system.Question.TheVariants as question
-use Rattle.packet_paths.specs.Hosts.{is_multicast}
+use Rattle.network_tables.specs.Groups.{is_multicast}
 
 -- a look counts for less than 1 ms, or 1,000,000 ns; where the clock cannot be read none counts
 abbrev pub is_fresh : Option ℕ → Option ℕ → Bool

@@ -8,7 +8,8 @@ use Rattle.link_notices.specs.Offers.{offer_of}
 use Rattle.link_notices.specs.declared.path.CardAddress.{CardAddress}
 use Rattle.link_notices.specs.declared.sending.Sending.{Sending}
 use Rattle.link_notices.specs.declared.sending.Sending.TheVariants as how
-use Rattle.packet_paths.specs.Hosts.{is_multicast, packet_place, path_place, state_of_path}
+use Rattle.network_tables.specs.Groups.{is_multicast}
+use Rattle.packet_paths.specs.Hosts.{packet_place, path_place, state_of_path}
 use Rattle.packet_paths.specs.NetworkSteps.{NetworkStep}
 use Rattle.packet_paths.specs.NetworkSteps.NetworkStep.{Send}
 use Rattle.packet_paths.specs.Routes.{IsLookBefore, look_source}

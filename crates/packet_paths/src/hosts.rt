@@ -1,18 +1,11 @@
 ghost use Rattle.std.specs.Prelude.{◌≡◌};
-ghost use Rattle.packet_paths.specs.Hosts.{is_multicast, is_universe_group, packet_place};
+ghost use Rattle.packet_paths.specs.Hosts.{is_universe_group, packet_place};
 ghost use Rattle.packet_paths.specs.Hosts.{path_place};
 
 use crate::path::Path;
 
 // The host that stands for the multicast groups of all universes.
 const EACH_GROUP: [u8; 4] = [239, 255, 0, 0];
-
-/// Whether an address is that of a multicast group.
-pub fn is_multicast(host: [u8; 4]) -> bool
-    ensures { result ≡ is_multicast host }
-{
-    host[0] >= 224 && host[0] <= 239
-}
 
 fn is_universe_group(host: [u8; 4]) -> bool
     ensures { result ≡ is_universe_group host }

@@ -37,7 +37,7 @@ pub use asked_cards::{
     NamedRefusal, card_of, cards_of, hidden_cards, named_source, source_by_name,
 };
 pub use card_system::{CardQuestion, CardSystem};
-pub use hosts::{is_multicast, packet_place, path_place};
+pub use hosts::{packet_place, path_place};
 pub use memory_call::MemoryCall;
 pub use memory_sockets::{MemorySockets, MemoryStep, NetworkAnswers};
 pub use network_system::NetworkSystem;

@@ -6,14 +6,14 @@ ghost use Rattle.packet_paths.specs.NetworkOpens.{IsReached, IsSource, IsTargetR
 ghost use Rattle.packet_paths.specs.NetworkOpens.{first_source, new_source, source_place};
 ghost use Rattle.packet_paths.specs.NetworkSteps.{NetworkStep};
 
-use crate::hosts::{is_multicast, path_place};
+use crate::hosts::path_place;
 use crate::network_system::NetworkSystem;
 use crate::night_paths::{Leaving, NightPaths, Paths, Source, Sources, path_source};
 use crate::open_fault::OpenFault;
 use crate::path::Path;
 use crate::sockets::source_address;
 use link_notices::{CardAddress, SourceState};
-use network_tables::CardName;
+use network_tables::{CardName, is_multicast};
 use targets::Targets;
 
 impl NightPaths {

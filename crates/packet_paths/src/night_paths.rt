@@ -8,13 +8,13 @@ ghost use Rattle.packet_paths.specs.Sends.{failure_after, packet_path, packet_se
 ghost use Rattle.packet_paths.specs.Sends.{packet_socket, path_at, path_of, path_source};
 ghost use Rattle.packet_paths.specs.Sends.{path_source_place, source_at, source_socket, with_path};
 
-use crate::hosts::{is_multicast, packet_place, path_place};
+use crate::hosts::{packet_place, path_place};
 use crate::network_system::NetworkSystem;
 use crate::night_socket::NightSocket;
 use crate::path::{Path, sending_of};
 use arrayvec::ArrayVec;
 use link_notices::{CardAddress, MOST_SOURCES, NetworkLook, Sending, SourceState};
-use network_tables::CardName;
+use network_tables::{CardName, is_multicast};
 use std::io::ErrorKind;
 use targets::{Address, MOST_TARGETS};
 

@@ -3,7 +3,8 @@ ghost use Rattle.std.specs.Prelude.{IfSome, IfNone, OnSome};
 ghost use Rattle.link_notices.specs.Offers.{offer_of};
 ghost use Rattle.network_tables.specs.Neighbors.{silence_by};
 ghost use Rattle.network_tables.specs.declared.route.Route.{Route as RouteOf};
-ghost use Rattle.packet_paths.specs.Hosts.{host_path, is_multicast, is_nowhere, new_path};
+ghost use Rattle.network_tables.specs.Groups.{is_multicast};
+ghost use Rattle.packet_paths.specs.Hosts.{host_path, is_nowhere, new_path};
 ghost use Rattle.packet_paths.specs.Hosts.{state_of_path};
 ghost use Rattle.packet_paths.specs.Routes.{IsFound, IsLookBefore, card_questions, is_fresh};
 ghost use Rattle.packet_paths.specs.Routes.{if_of, known_card, look_source, with_route};
@@ -13,11 +14,10 @@ ghost use Rattle.packet_paths.specs.NetworkSteps.{NetworkStep};
 ghost use Rattle.packet_paths.specs.NetworkSteps.NetworkStep.{Ask};
 ghost use Rattle.packet_paths.specs.declared.system.Question.TheVariants as question;
 
-use crate::hosts::is_multicast;
 use crate::system::RouteSystem;
 use crate::takers::{first_taker, is_taken_here};
 use link_notices::{CardAddress, HostPath, PathState, Sending, SourceState};
-use network_tables::{Neighbor, silence_toward};
+use network_tables::{Neighbor, is_multicast, silence_toward};
 
 // A look at the route to a host counts for less than so many nanoseconds: so the packets of a tick
 // have one, and not one each.

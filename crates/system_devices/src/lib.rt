@@ -44,9 +44,7 @@ pub use messages::{Messages, open_messages};
 pub use network::Network;
 pub use night_files::RecordFault;
 pub use output::SystemOutput;
-pub use packet_paths::{
-    Leaving, NamedRefusal, NetworkRefusal, Path, Source, is_multicast, source_by_name,
-};
+pub use packet_paths::{Leaving, NamedRefusal, NetworkRefusal, Path, Source, source_by_name};
 pub use record::Record;
 pub use record_file::{Pause, RecordFile};
 pub use record_lock::remove_unused_record;

@@ -1,6 +1,6 @@
 use Rattle.std.proofs.Common.{◌≡◌, ◌&&◌, not, refl, subst, sym}
 use Rattle.std.specs.Prelude.{Some}
-use Rattle.packet_paths.specs.Hosts.{is_multicast}
+use Rattle.network_tables.specs.Groups.{is_multicast}
 use Rattle.packet_paths.specs.NetworkLooks.{IsLookAlong, can_send}
 use Rattle.packet_paths.specs.PathLooks.{IsPathFound}
 use Rattle.packet_paths.specs.Sends.{source_at}
