@@ -99,6 +99,16 @@ class RecordWriter(WriterTest):
                 self.assertTerminated(self.came()[-7:])
                 self.record.unlink()
 
+    def test_script_that_names_itself(self):
+        """CUEPLAYER may name the script: the file that it has made is not removed by the run that
+        only sees whether the program starts."""
+        self.env["CUEPLAYER"] = str(self.PROGRAM)
+        night = self.begun("--record", self.record)
+        self.light(night, b"sub 1 FL\n", 128)
+        self.assertEnds(night)
+        self.assertEqual(b"", night.stderr.read())
+        self.assertEqual([b"sub 1 FL", b"master 0", b"end"], commands(self.record))
+
     def test_disk_that_stalls(self):
         """The light goes on, without a late tick; it is told once, and again when all is
         written."""

@@ -123,7 +123,9 @@ class Starting(CopiedLayout):
     def test_program_that_is_not_executable(self):
         self.ship(HEAD)
         self.program.chmod(0o644)
-        self.assertFails("is not executable: chmod +x it")
+        self.assertFails(
+            f"is not executable: chmod +x it; if that does not help, copy {self.top} to a disk"
+        )
 
     @unittest.skipUnless(AS_OTHER, "only root can be somebody else")
     def test_program_that_cannot_be_read(self):
