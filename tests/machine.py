@@ -18,10 +18,15 @@ from typing import NamedTuple
 
 # How long a nap is, and by how much it is overslept on a machine at rest, in seconds.
 NAP, USUAL = 0.005, 0.002
+# A machine that stands still for so long at once, in milliseconds, may turn what a program does: a
+# press that it has not read within a second is taken back.
+STANDSTILL = 500.0
+# How long a machine at rest has not stood still, and for how long that is waited for, in seconds.
+REST, MOST_WAIT = 5.0, 600.0
 
 
 class Late(AssertionError):
-    """A limit of real time was missed. The runner runs such a test once more, and no other."""
+    """A limit of real time was missed. The runner runs such a test once more."""
 
 
 class Took(NamedTuple):
@@ -71,22 +76,40 @@ class Witness:
         self.process.wait()
         self.process.stdout.close()
 
+    def _waits(self, since: float, until: float) -> list[list[float]]:
+        """For how many milliseconds of this stretch each processor let the nap wait, each time."""
+        with self.asking:
+            self._ask()
+            return [
+                [1000 * max(0.0, min(woke, until) - max(due, since)) for due, woke in stalls]
+                for stalls in self.stalls.values()
+            ]
+
     def stalled(self, since: float, until: float) -> float:
         """For how many milliseconds of this stretch a processor let the nap wait: of the processor
         that did so the longest."""
-        with self.asking:
-            self._ask()
-            sums = [
-                sum(max(0.0, min(woke, until) - max(due, since)) for due, woke in stalls)
-                for stalls in self.stalls.values()
-            ]
-        return 1000 * max(sums, default=0.0)
+        return max(map(sum, self._waits(since, until)), default=0.0)
+
+    def longest(self, since: float, until: float) -> float:
+        """For how many milliseconds of this stretch a processor let the nap wait at once, at
+        most."""
+        return max((max(waits, default=0.0) for waits in self._waits(since, until)), default=0.0)
 
 
 @functools.cache
 def witness() -> Witness:
     """The one of this run, from the first call on."""
     return Witness()
+
+
+def wait_for_rest() -> None:
+    """Waits until the machine has not stood still for a while, but not for ever."""
+    until = time.monotonic() + MOST_WAIT
+    while time.monotonic() < until:
+        since = time.monotonic()
+        time.sleep(REST)
+        if witness().longest(since, time.monotonic()) < STANDSTILL:
+            return
 
 
 def in_time(each: Took, limit: float, what: str) -> None:

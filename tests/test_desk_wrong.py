@@ -58,7 +58,9 @@ class BrokenOff(DeskTest):
         page.wait(status=-signal.SIGKILL, resumes=True)
         desk.err.find("desk: live has ended with status -9$")
         self.assertEqual(204, page.request("POST", "resume", b"now")[0])
-        page.wait(status=None, current="2", next=None, masters={"sub 1": 255}, grand=128)
+        page.wait(
+            status=None, current="2", next=None, masters={"sub 1": 255}, grand=128, waiting=0
+        )
         found = desk.err.find(r"desk: the night is taken up: live is process (\d+)$")
         self.addCleanup(self.kill, int(found[1]), self.cid)
         self.came()
