@@ -21,8 +21,8 @@ NAP, USUAL = 0.005, 0.002
 # A machine that stands still for so long at once, in milliseconds, may turn what a program does: a
 # press that it has not read within a second is taken back.
 STANDSTILL = 500.0
-# How long a machine at rest has not stood still, and for how long that is waited for, in seconds.
-REST, MOST_WAIT = 5.0, 600.0
+# For how long a machine at rest has not stood still, in seconds.
+REST = 5.0
 
 
 class Late(AssertionError):
@@ -102,14 +102,27 @@ def witness() -> Witness:
     return Witness()
 
 
-def wait_for_rest() -> None:
-    """Waits until the machine has not stood still for a while, but not for ever."""
-    until = time.monotonic() + MOST_WAIT
-    while time.monotonic() < until:
-        since = time.monotonic()
-        time.sleep(REST)
-        if witness().longest(since, time.monotonic()) < STANDSTILL:
-            return
+class Patience:
+    """Waits while the machine stands still, for so many seconds in all."""
+
+    def __init__(self, left: float) -> None:
+        self.left = left
+
+    def wait(self) -> None:
+        """Waits until the machine has not stood still for a while."""
+        began = time.monotonic()
+        until = began + self.left
+        while (now := time.monotonic()) < until and stands_still(now - REST):
+            time.sleep(1.0)
+        waited = time.monotonic() - began
+        self.left -= waited
+        if waited > 1.0:
+            print(f"waited {waited:.0f} s for a machine that stood still", flush=True)
+
+
+def stands_still(since: float) -> bool:
+    """Whether the machine has stood still at once for too long, from this moment on."""
+    return witness().longest(since, time.monotonic()) >= STANDSTILL
 
 
 def in_time(each: Took, limit: float, what: str) -> None:
@@ -141,9 +154,8 @@ class Naps:
                 self.stalls.append((due - USUAL, woke))
             self.count += 1
 
-    def noted(self) -> list[tuple[float, float]]:
-        """The stalls since the last look; a nap of this moment has ended."""
-        last = self.count + 2
+    def noted(self, last: int) -> list[tuple[float, float]]:
+        """The stalls since the last look, once so many naps have ended."""
         while self.count < last:
             time.sleep(NAP)
         stalls, self.stalls = self.stalls, []
@@ -156,7 +168,10 @@ def main() -> None:
     signal.signal(signal.SIGINT, signal.SIG_IGN)
     naps = [Naps(processor) for processor in os.sched_getaffinity(0)]
     for _ in sys.stdin:
-        print(json.dumps({each.processor: each.noted() for each in naps}), flush=True)
+        # By then a nap of this moment has ended on each.
+        lasts = [each.count + 2 for each in naps]
+        noted = {each.processor: each.noted(last) for each, last in zip(naps, lasts, strict=True)}
+        print(json.dumps(noted), flush=True)
 
 
 if __name__ == "__main__":
