@@ -88,7 +88,7 @@ class Witness:
     def stalled(self, since: float, until: float) -> float:
         """For how many milliseconds of this stretch a processor let the nap wait: of the processor
         that did so the longest."""
-        return max(map(sum, self._waits(since, until)), default=0.0)
+        return max((sum(waits) for waits in self._waits(since, until)), default=0.0)
 
     def longest(self, since: float, until: float) -> float:
         """For how many milliseconds of this stretch a processor let the nap wait at once, at

@@ -91,7 +91,8 @@ class Awake(OutputsTest):
 
     def test_refused(self) -> None:
         """Who may not ask for all asks for less. Nothing is told, and the night goes on."""
-        for refused, last in (([ALL], ["let go"]), ([ALL, IDLE], [])):
+        rows: list[tuple[list[str], list[str]]] = [([ALL], ["let go"]), ([ALL, IDLE], [])]
+        for refused, last in rows:
             with self.subTest(refused=refused):
                 self.log.unlink(missing_ok=True)
                 self.env["REFUSED"] = " ".join(refused)
@@ -106,7 +107,7 @@ class Awake(OutputsTest):
 
     def test_other_runs(self) -> None:
         """A run that plays nothing live does not ask."""
-        words = [self.PROGRAM, "check", TOP / "examples/small-play.asc"]
+        words = [str(self.PROGRAM), "check", str(TOP / "examples/small-play.asc")]
         subprocess.run(words, env=self.env, check=True, stdout=subprocess.DEVNULL)
         self.assertEqual([], self.asked())
 
