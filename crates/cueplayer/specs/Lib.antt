@@ -1,1 +1,7 @@
 pub mod Reading
+pub mod Plays
+pub mod Traffic
+pub mod Laws
+pub mod Restarts
+pub mod Programs
+pub mod OldShows

@@ -1,8 +1,10 @@
-//! The program: it reads its words, runs what they ask for, and reports how that ended.
+//! The program: it reads its words, runs what they ask for, and reports how that ended. What its
+//! commands promise together, from the lines of a play to the light on the stage, is in [`laws`].
 #![tactic(auto)]
 
 mod cards;
 mod jobs;
+pub mod laws;
 mod line_night;
 mod link_watch;
 mod live_booth;

@@ -1,5 +1,0 @@
-use Rattle.stage_light.proofs.Showing.{unpatched_zero}
-use Rattle.stage_light.proofs.laws.headline.Goals as goal
-
-pub returns-clause-unpatched : goal.returns-clause-unpatched
-returns-clause-unpatched c = unpatched_zero

@@ -1,8 +1,0 @@
-use Rattle.stage_light.proofs.Listening.{listen_law, play_to_listen}
-use Rattle.stage_light.proofs.laws.listen_law.Goals as goal
-
-pub returns-clause-text : goal.returns-clause-text
-returns-clause-text c = listen_law
-
-pub returns-clause-programs : goal.returns-clause-programs
-returns-clause-programs c = play_to_listen

@@ -1,5 +1,0 @@
-use Rattle.stage_light.proofs.Records.{taken_up}
-use Rattle.stage_light.proofs.laws.records_are_taken_up.Goals as goal
-
-pub returns : goal.returns
-returns c = taken_up

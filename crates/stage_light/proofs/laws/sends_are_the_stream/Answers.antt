@@ -1,5 +1,0 @@
-use Rattle.stage_light.proofs.Sends.{sends_addressed}
-use Rattle.stage_light.proofs.laws.sends_are_the_stream.Goals as goal
-
-pub returns-clause-addressed : goal.returns-clause-addressed
-returns-clause-addressed c = sends_addressed

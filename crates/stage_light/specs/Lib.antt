@@ -1,6 +1,0 @@
-pub mod Plays
-pub mod Traffic
-pub mod Laws
-pub mod Restarts
-pub mod Programs
-pub mod OldShows
