@@ -45,11 +45,11 @@ TESTED = {
     "test_stream::source": Tested(("Sender::open",), EACH),
     "test_stream::queue": Tested(("LineQueue::new",), EACH),
     "test_desk::desks": Tested(("Desk::open",), EACH),
-    "test_console::world": Tested(("rehearse",), EACH),
+    "test_desk::world": Tested(("rehearse",), EACH),
     "test_show::reader": Tested(
         ("read_show",), ("any_order", "lines_between", "skipped_lines")
     ),
-    "test_console::script": Tested(
+    "test_desk::script": Tested(
         ("read_script",), ("first_malformed_line", "forms_at_their_limits", "strays")
     ),
     "test_program::runs": Tested(

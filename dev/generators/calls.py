@@ -118,8 +118,9 @@ def refusal(above: str) -> str:
 
 
 def exported(crate: Path) -> set[str]:
-    """The names that a crate's library exports."""
-    library = (crate / "src/lib.rt").read_text()
+    """The names that a crate's library exports; a program has none."""
+    file = crate / "src/lib.rt"
+    library = file.read_text() if file.exists() else ""
     uses = re.findall(r"pub use (\w+)::(?:\{([^}]*)\}|(\w+));", library)
     inside = {name for _, *some in uses for name in re.findall(r"\w+", " ".join(some))}
     if "pub mod memory" in library:
@@ -174,8 +175,7 @@ def crates() -> list[str]:
 
 def all_calls() -> dict[str, list[Call]]:
     """Those of each crate that has any, in the order of crates.txt."""
-    folders = [TOP / "crates" / name for name in crates() if name not in UNTOLD]
-    found = {crate.name: calls_of(crate) for crate in folders if (crate / "src/lib.rt").exists()}
+    found = {name: calls_of(TOP / "crates" / name) for name in crates() if name not in UNTOLD}
     return {name: calls for name, calls in found.items() if calls}
 
 

@@ -271,7 +271,7 @@ impl<F: Fader> Desk<F> {
         if !self.frame_state.are_kept() || self.playback.is_due(moment) {
             return None;
         }
-        self.playback.moving()
+        self.playback.moving_channels()
     }
 
     // Keeps the frames, since each channel has the level that it had. The playback need not move

@@ -139,7 +139,7 @@ impl Course {
     }
 
     // The channels that may still move.
-    pub fn moving(&self) -> &[u16]
+    pub fn moving_channels(&self) -> &[u16]
         ensures in_range { All (λ channel. (1 ≤ channel) × (channel ≤ length self.now.from))
             result.now }
         ensures others { (channel moment : ℕ) → 1 ≤ channel → channel ≤ length self.now.from

@@ -64,7 +64,7 @@ impl<const BY_SHARES: bool> Fader for CourseFader<BY_SHARES> {
         Some(self.course.levels())
     }
 
-    fn moving(&self) -> Option<&[u16]> {
-        Some(self.course.moving())
+    fn moving_channels(&self) -> Option<&[u16]> {
+        Some(self.course.moving_channels())
     }
 }

@@ -93,7 +93,7 @@ pub trait Fader: Drop {
 
     /// The channels that may have another level at a later moment, as long as nothing starts, where
     /// the fader lists them. Where it does not, each may.
-    fn moving(&self) -> Option<&[u16]>
+    fn moving_channels(&self) -> Option<&[u16]>
         ensures in_range { IfSome result (λ moving.
             All (λ channel. (1 ≤ channel) × (channel ≤ channels self.now)) moving.now) }
         ensures others { IfSome result (λ moving. (starts : List Start) (channel moment : ℕ)

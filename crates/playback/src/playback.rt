@@ -237,7 +237,7 @@ impl<F: Fader> Playback<F> {
 
     /// The channels that may have another level at a later moment, as long as there is no move,
     /// where the fader lists them. Where it does not, each may.
-    pub fn moving(&self) -> Option<&[u16]>
+    pub fn moving_channels(&self) -> Option<&[u16]>
         ensures in_range { IfSome result (λ moving.
             All (λ channel. IsTrue (is_channel channel)) moving.now) }
         ensures others { IfSome result (λ moving. OfEach F.stands_for self.now
@@ -247,7 +247,7 @@ impl<F: Fader> Playback<F> {
             → playback_level show moves channel moment
             ≡ playback_level show moves channel (F.latest self.now.fader))) }
     {
-        self.fader.moving()
+        self.fader.moving_channels()
     }
 }
 

@@ -223,7 +223,7 @@ fn slow_fade_exact(rt: HostRuntime) -> Result<(), Fail> {
 
 // Whether a fader tells that these channels are on their way, and these levels of all four.
 fn tells<F: Fader>(fader: &F, moving: &[u16], levels: &[u16; 4]) -> bool {
-    fader.moving() == Some(moving) && fader.levels() == Some(levels)
+    fader.moving_channels() == Some(moving) && fader.levels() == Some(levels)
 }
 
 // Whether the channels that are listed at a start are those on their way.

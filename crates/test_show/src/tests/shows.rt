@@ -1,6 +1,8 @@
 mod many;
 
-use many::{falling, falling_dimmers, list_in_cue, list_in_group, list_in_sub, rising};
+use many::{
+    falling_dimmers, falling_levels, list_in_cue, list_in_group, list_in_sub, rising_levels,
+};
 use show::{BuildFault, Counts, Show};
 use std::alloc::{AllocError, Global};
 use std::process::Abort;
@@ -192,8 +194,8 @@ fn grow(rt: &impl Abort, show: &mut Show, growth: Growth) -> Result<(), BuildFau
         Growth::GroupLevel => light_group(rt, show, 1, 1, 255),
         Growth::Patch => show.set_patch(1, 1, 255),
         Growth::CueLevels => list_in_cue(rt, show, 1000, &[(7, 255), (6, 255), (5, 255), (4, 255)]),
-        Growth::SubLevels => list_in_sub(rt, show, 1, &falling(255)),
-        Growth::GroupLevels => list_in_group(rt, show, 1, &rising(255)),
+        Growth::SubLevels => list_in_sub(rt, show, 1, &falling_levels(255)),
+        Growth::GroupLevels => list_in_group(rt, show, 1, &rising_levels(255)),
         Growth::Patches => show.set_patches(&falling_dimmers(9)),
     }
 }

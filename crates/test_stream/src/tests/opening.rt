@@ -86,7 +86,7 @@ const RENAMED: FileAnswers = FileAnswers {
     ..NEW
 };
 
-fn refused(refusal: RecordRefusal) -> Result<bool, OpeningFault> {
+fn refusal(refusal: RecordRefusal) -> Result<bool, OpeningFault> {
     Err(OpeningFault::Refused(refusal))
 }
 
@@ -160,16 +160,16 @@ fn a_night_begins_in_a_locked_file(rt: HostRuntime) {
     record_opening_law();
     let rows = &[
         (NEW, Ok(true), 5),
-        (THEIRS, refused(RecordRefusal::InUse(Some(7))), 6),
+        (THEIRS, refusal(RecordRefusal::InUse(Some(7))), 6),
         (LOCKLESS, Ok(false), 5),
-        (RENAMED, refused(RecordRefusal::OtherName), 5),
+        (RENAMED, refusal(RecordRefusal::OtherName), 5),
         // What is refused is not locked, and nor is a device.
         (
             FileAnswers {
                 found: Ok(WRITTEN),
                 ..NEW
             },
-            refused(RecordRefusal::NotEmpty),
+            refusal(RecordRefusal::NotEmpty),
             3,
         ),
         (
@@ -189,7 +189,7 @@ fn a_night_begins_in_a_locked_file(rt: HostRuntime) {
                 }),
                 ..NEW
             },
-            refused(RecordRefusal::NotEmpty),
+            refusal(RecordRefusal::NotEmpty),
             5,
         ),
     ];
@@ -200,13 +200,13 @@ fn a_night_begins_in_a_locked_file(rt: HostRuntime) {
 fn a_night_goes_on_in_a_locked_file(rt: HostRuntime) {
     let rows = &[
         (NEW, Ok(true), 7),
-        (RENAMED, refused(RecordRefusal::OtherName), 5),
+        (RENAMED, refusal(RecordRefusal::OtherName), 5),
         (
             FileAnswers {
                 found: Ok(DEVICE),
                 ..NEW
             },
-            refused(RecordRefusal::NoFile),
+            refusal(RecordRefusal::NoFile),
             3,
         ),
         (
@@ -247,8 +247,8 @@ fn a_watched_file_is_locked_to_take_it_over(rt: HostRuntime) {
     let taken = &[
         (NEW, Ok(true), 3),
         (THEIRS, Ok(false), 1),
-        (LOCKLESS, refused(RecordRefusal::NoLocks), 1),
-        (RENAMED, refused(RecordRefusal::OtherName), 2),
+        (LOCKLESS, refusal(RecordRefusal::NoLocks), 1),
+        (RENAMED, refusal(RecordRefusal::OtherName), 2),
     ];
     hold_each(&rt, rt.alloc(), None, taken);
 }

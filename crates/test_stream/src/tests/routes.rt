@@ -29,7 +29,7 @@ enum Way {
 // The system, how many questions it is asked, and where the path leads then.
 type Row = (Before, usize, Way);
 
-const fn known(time: u64, source: [u8; 4], card: &'static str) -> Before {
+const fn known_card(time: u64, source: [u8; 4], card: &'static str) -> Before {
     Before {
         time: Some(time),
         source: Some(source),
@@ -104,16 +104,28 @@ fn hold_each(rt: &impl Abort, system: &mut MemorySockets, rows: &[Row]) {
 #[test]
 fn a_route_is_looked_for_before_packets(rt: HostRuntime) {
     let rows = &[
-        (known(0, OWN, "eth0"), 2, Way::ByItsCard),
+        (known_card(0, OWN, "eth0"), 2, Way::ByItsCard),
         // A look counts for less than a millisecond.
-        (known(999_999, OTHER, "wlan0"), 1, Way::ByItsCard),
-        (known(1_000_000, OTHER, "wlan0"), 3, Way::ByOther("wlan0")),
+        (known_card(999_999, OTHER, "wlan0"), 1, Way::ByItsCard),
+        (
+            known_card(1_000_000, OTHER, "wlan0"),
+            3,
+            Way::ByOther("wlan0"),
+        ),
         // The card of an address that is known is not asked for again.
-        (known(2_000_000, OTHER, "eth0"), 2, Way::ByOther("wlan0")),
+        (
+            known_card(2_000_000, OTHER, "eth0"),
+            2,
+            Way::ByOther("wlan0"),
+        ),
         (UNKNOWN, 2, Way::Nowhere),
-        (known(2_000_001, OWN, "eth0"), 2, Way::ByItsCard),
+        (known_card(2_000_001, OWN, "eth0"), 2, Way::ByItsCard),
         // Another address of the same card.
-        (known(4_000_000, [10, 0, 0, 3], "eth0"), 3, Way::ByItsCard),
+        (
+            known_card(4_000_000, [10, 0, 0, 3], "eth0"),
+            3,
+            Way::ByItsCard,
+        ),
     ];
     let mut system = system(rt.alloc());
     hold_each(&rt, &mut system, rows);

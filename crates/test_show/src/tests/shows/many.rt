@@ -36,7 +36,7 @@ pub fn list_in_group(
 }
 
 // The channels from 300 down to 1 at this byte.
-pub fn falling(byte: u8) -> [(u16, u8); 300] {
+pub fn falling_levels(byte: u8) -> [(u16, u8); 300] {
     let mut pairs = [(0, byte); 300];
     for at in 0..LONG {
         pairs[usize::from(at)].0 = LONG - at;
@@ -45,7 +45,7 @@ pub fn falling(byte: u8) -> [(u16, u8); 300] {
 }
 
 // The channels from 1 to 300 at this byte.
-pub fn rising(byte: u8) -> [(u16, u8); 300] {
+pub fn rising_levels(byte: u8) -> [(u16, u8); 300] {
     let mut pairs = [(0, byte); 300];
     for at in 0..LONG {
         pairs[usize::from(at)].0 = at + 1;

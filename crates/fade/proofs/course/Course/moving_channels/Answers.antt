@@ -1,7 +1,7 @@
 use Rattle.std.proofs.Common.{◌-◌, ◌≤◌, length, arith}
 use Rattle.fade.specs.Stepping.{IsUnlisted}
 use Rattle.fade.proofs.Standing.{unlisted_front}
-use Rattle.fade.proofs.course.Course.moving.Goals as goal
+use Rattle.fade.proofs.course.Course.moving_channels.Goals as goal
 
 pub returns-clause-others : goal.returns-clause-others
 returns-clause-others c = rw (← c.self.view_is) (λ channel moment from_one in_range lacks le.
