@@ -136,7 +136,7 @@ def night_show() -> str:
     return "\n".join(lines) + "\n"
 
 
-def ordered(listed: Iterable[int], order: str) -> list[int]:
+def in_order(listed: Iterable[int], order: str) -> list[int]:
     """These numbers ascending, descending, or in a random order that is the same at every run."""
     numbers = list(listed)
     if order == "random":
@@ -150,14 +150,14 @@ def channels_show(order: str) -> str:
     lines = []
     for number in range(1, 25):
         lines.append(f"CUE {number}")
-        lines += chan_lines(rng, ordered(range(1, 4097), order))
+        lines += chan_lines(rng, in_order(range(1, 4097), order))
     return "\n".join(lines) + "\n"
 
 
 def dimmers_show(order: str) -> str:
     """All dimmers patched, each by a line of its own."""
     lines = (
-        f"PATCH 1 {dimmer % 4096 + 1}<{dimmer}@FL" for dimmer in ordered(range(1, 8193), order)
+        f"PATCH 1 {dimmer % 4096 + 1}<{dimmer}@FL" for dimmer in in_order(range(1, 8193), order)
     )
     return "\n".join(lines) + "\n"
 
@@ -166,7 +166,7 @@ def cues_show(order: str) -> str:
     """Two thousand cues of fifty channels each."""
     rng = random.Random(2000)
     lines = []
-    for number in ordered(range(1, 2001), order):
+    for number in in_order(range(1, 2001), order):
         lines += [f"CUE {number}", f"UP {rng.randint(0, 90)}"]
         lines += chan_lines(rng, sorted(rng.sample(range(1, 4097), 50)))
     return "\n".join(lines) + "\n"

@@ -82,7 +82,7 @@ class Pauses:
         return [pause for _ in self.processors for pause in self.found.get()]
 
 
-def played(program: Path, folder: Path) -> tuple[list[tuple[float, float]], list[int], str]:
+def play_night(program: Path, folder: Path) -> tuple[list[tuple[float, float]], list[int], str]:
     """Plays a live night: what `latencies` answers, how far its ticks were apart in milliseconds,
     and how it ended."""
     show, record = folder / "night.asc", folder / "night.play"
@@ -112,7 +112,7 @@ def played(program: Path, folder: Path) -> tuple[list[tuple[float, float]], list
     return shown, sorted(after - before for before, after in zip(ticks, ticks[1:])), ended
 
 
-def told(seconds: list[float]) -> str:
+def summary(seconds: list[float]) -> str:
     """The median and the worst, in milliseconds."""
     median, worst = 1e3 * statistics.median(seconds), 1e3 * max(seconds)
     return f"{median:.1f} ms, worst of {len(seconds)}: {worst:.1f} ms"
@@ -121,7 +121,7 @@ def told(seconds: list[float]) -> str:
 def report_night(program: Path, folder: Path) -> None:
     """Plays a live night, and prints its figures."""
     machine = Pauses()
-    shown, gaps, ended = played(program, folder)
+    shown, gaps, ended = play_night(program, folder)
     pauses = machine.all()
     alone = [
         came - start
@@ -131,8 +131,8 @@ def report_night(program: Path, folder: Path) -> None:
     longest = max((woke - due for due, woke in pauses), default=0.0)
     seldom = gaps[len(gaps) * 999 // 1000]
     print(ended)
-    print(f"command to datagram   {told([came - start for start, came in shown])}")
-    print(f"  no pause of the machine meanwhile: {told(alone)}")
+    print(f"command to datagram   {summary([came - start for start, came in shown])}")
+    print(f"  no pause of the machine meanwhile: {summary(alone)}")
     print(
         f"ticks apart           {statistics.median(gaps)} ms, 99.9th of {len(gaps)}: {seldom} ms,"
         f" {gaps[0]} to {gaps[-1]} ms"

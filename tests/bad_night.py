@@ -88,10 +88,10 @@ class Receiver:
         # the first one of a universe.
         self.may_miss_until = 0.0
         self.may_miss: set[int] = set()
-        self.sockets = [self._joined(universe) for universe in range(1, UNIVERSES + 1)]
+        self.sockets = [self._join(universe) for universe in range(1, UNIVERSES + 1)]
         threading.Thread(target=self._read, daemon=True).start()
 
-    def _joined(self, universe: int) -> socket.socket:
+    def _join(self, universe: int) -> socket.socket:
         group = f"239.255.0.{universe}"
         receiver = socket.socket(socket.AF_INET, socket.SOCK_DGRAM)
         receiver.setsockopt(socket.SOL_SOCKET, socket.SO_REUSEADDR, 1)
@@ -149,12 +149,12 @@ class Desk:
         self.ahead = collections.deque([-1e15], maxlen=100)
         self.state: dict = {}
         self.osc = 0
-        self.events = self.opened()
+        self.events = self.open_events()
         threading.Thread(target=self._read, daemon=True).start()
         while not (self.state and self.osc):
             time.sleep(0.01)
 
-    def opened(self) -> http.client.HTTPResponse:
+    def open_events(self) -> http.client.HTTPResponse:
         connection = http.client.HTTPConnection(self.host, timeout=60)
         connection.request("GET", self.path + "events")
         return connection.getresponse()
@@ -262,7 +262,7 @@ class Trouble:
 
     def open_pages(self) -> None:
         with contextlib.suppress(OSError):
-            pages = [self.desk.opened() for _ in range(self.chance.randint(1, 8))]
+            pages = [self.desk.open_events() for _ in range(self.chance.randint(1, 8))]
             time.sleep(self.chance.uniform(0, 2))
             for page in pages:
                 page.close()
@@ -335,11 +335,11 @@ def late_in(lines: list[list[str]], presses: list[Took], began: float) -> list[s
     late: list[str] = []
     for before, after in zip(ticks, ticks[1:]):
         stretch = Took(after - before, began + before / 1000 - 1, began + after / 1000 + 1)
-        with told(late):
+        with collect_late(late):
             in_time(stretch, TICK + BEYOND, f"the tick at {after}")
     for each in presses:
         # What is in time for the desk waits for `live`, at most as long as a tick may.
-        with told(late):
+        with collect_late(late):
             in_time(each, LATE + BEYOND, "a press")
     worst = max(after - before for before, after in zip(ticks, ticks[1:])) - TICK
     stood = max(
@@ -353,7 +353,7 @@ def late_in(lines: list[list[str]], presses: list[Took], began: float) -> list[s
 
 
 @contextlib.contextmanager
-def told(late: list[str]) -> Iterator[None]:
+def collect_late(late: list[str]) -> Iterator[None]:
     """What is late inside is one of these."""
     try:
         yield

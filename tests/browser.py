@@ -84,7 +84,7 @@ class Browser:
                     raise AssertionError(f"{method}: {message['error']}")
                 return message["result"]
 
-    def opened(self, address, width=1200, height=800):
+    def open_page(self, address, width=1200, height=800):
         """A page of its own at this address."""
         return BrowserPage(self, address, width, height)
 

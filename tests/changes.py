@@ -35,7 +35,7 @@ def without(r, data):
     return data[:place] + data[place + r.choice([1, 1, 2, 5, 50]) :]
 
 
-def doubled(r, data):
+def double(r, data):
     first = r.randrange(len(data))
     after = first + r.choice([1, 1, 3, 20, 300])
     return data[:after] + data[first:after] + data[after:]
@@ -65,13 +65,13 @@ def other_number(r, data):
 def by_lines(change):
     """A change of the list of lines, of at least two."""
 
-    def changed(r, data):
+    def change_lines(r, data):
         lines = data.split(b"\n")
         if len(lines) > 2:
             change(r, lines)
         return b"\n".join(lines)
 
-    return changed
+    return change_lines
 
 
 @by_lines
@@ -115,7 +115,7 @@ def swapped_words(r, lines):
     lines[one] = b" ".join(words)
 
 
-OF_BYTES = (turned_byte, other_byte, cut, without, doubled, put_in)
+OF_BYTES = (turned_byte, other_byte, cut, without, double, put_in)
 OF_LINES = (
     swapped_lines,
     doubled_line,
@@ -128,7 +128,7 @@ OF_LINES = (
 OF_TEXTS = OF_BYTES + OF_LINES + (other_separator, other_number, other_number, other_number)
 
 
-def changed(r, data, changes, most):
+def with_changes(r, data, changes, most):
     """The bytes after up to so many changes; none is likely enough too."""
     for _ in range(r.randrange(most + 1)):
         if data:

@@ -136,7 +136,7 @@ class CopiedLayout(unittest.TestCase):
         out, err = started.communicate("a show\n", timeout=60)
         return started.returncode, out, err
 
-    def asked(self) -> list[str]:
+    def requests(self) -> list[str]:
         """What the prover was asked for, in order."""
         return self.log.read_text().splitlines()
 

@@ -80,7 +80,7 @@ class PicturesTest(DoorTest):
         self.show.write_bytes(big_show())
         self.file("qrcode.py", CODE.encode())
         with mock.patch.dict(os.environ, PYTHONPATH=str(self.folder)):
-            self.desk, self.heard, self.door = self.opened()
+            self.desk, self.heard, self.door = self.open_desk()
         for line in ("goto 27 in 0", "sub 1 50", "sub 2 FL"):
             self.heard.command(line)
         self.heard.wait(current="27", masters={"sub 1": 128, "sub 2": 255}, waiting=0)
@@ -89,7 +89,7 @@ class PicturesTest(DoorTest):
         self.page = self.opened_page(f"{self.heard.origin}{self.heard.path}")
 
     def opened_page(self, address: str) -> BrowserPage:
-        page = self.browser.opened(address)
+        page = self.browser.open_page(address)
         colour(page, "dark")
         self.wait_for_cue(page)
         return page
@@ -102,7 +102,7 @@ class PicturesTest(DoorTest):
     def at_sizes(self, page: BrowserPage, name: str) -> Iterator[tuple[str, Taken]]:
         for width, height in SIZES:
             resize(page, width, height)
-            yield f"{name}-{width}x{height}", self.darkroom.taken(page)
+            yield f"{name}-{width}x{height}", self.darkroom.take(page)
 
     def view(self, name: str) -> None:
         """Brings this machine's page to a view."""
@@ -129,7 +129,7 @@ class PicturesTest(DoorTest):
 
     def taken_of_guests(self) -> Iterator[tuple[str, Taken]]:
         """The page that asks for the PIN, and the one that only watches."""
-        page = self.browser.opened(f"{self.door.origin}/")
+        page = self.browser.open_page(f"{self.door.origin}/")
         colour(page, "dark")
         page.wait("document.activeElement.id === 'pin'")
         yield from self.at_sizes(page, "pin")
@@ -146,10 +146,10 @@ class PicturesTest(DoorTest):
         play = self.show.rename(self.folder / SMALL_PLAY.name)
         self.show = play
         self.receiver.close()
-        _, address = self.begun("--grid")
+        _, address = self.begin("--grid")
         self.browser = Browser(self)
         self.darkroom = Darkroom(self.browser)
-        page = self.browser.opened(address, width=1280, height=720)
+        page = self.browser.open_page(address, width=1280, height=720)
         colour(page, "dark")
         heard = Page(self, address)
         page.wait("!document.body.classList.contains('is-dead')")

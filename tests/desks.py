@@ -146,7 +146,7 @@ class DeskTest(ReceiverTest):
         """A CID of its own, since others on this machine may play at the same time."""
         return str(uuid.uuid4())
 
-    def begun(self, *options, to=None):
+    def begin(self, *options, to=None):
         """A desk whose night has begun, and its address."""
         self.cid = self.new_cid()
         # Most tests press faster than a hand; the latest of an option counts.
@@ -159,19 +159,19 @@ class DeskTest(ReceiverTest):
         self.addCleanup(self.kill, desk.live, self.cid)
         return desk, line.removeprefix("desk: ")
 
-    def opened(self, *options, **kept):
+    def open_desk(self, *options, **kept):
         """A desk and an open page of it."""
-        desk, address = self.begun(*options, **kept)
+        desk, address = self.begin(*options, **kept)
         page = Page(self, address)
         page.wait(placed=True)
         return desk, page
 
-    def shown(self):
+    def shown_levels(self):
         """The levels that came to the socket since the last look."""
         return {each[SLOT_1] for each in self.came(0.05)}
 
     def wait_for_level(self, level):
-        wait_for(lambda: level in self.shown(), f"level {level}")
+        wait_for(lambda: level in self.shown_levels(), f"level {level}")
 
     def kill(self, live, cid):
         """Ends a `live` that outlived its desk."""

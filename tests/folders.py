@@ -66,9 +66,9 @@ class FolderNightTest(ReceiverTest):
     def put_down(self):
         """Ends what plays the night and what keeps it."""
         if self.night.is_dir():
-            self.asked("halt")
+            self.run_script("halt")
 
-    def asked(self, *words, **options):
+    def run_script(self, *words, **options):
         """A run of the script over the night."""
         done = subprocess.run(
             [NIGHT, self.night, *map(str, words)],
@@ -80,9 +80,9 @@ class FolderNightTest(ReceiverTest):
         )
         return Outcome(done.returncode, done.stdout, done.stderr)
 
-    def answered(self, *words):
+    def command(self, *words):
         """A command that has an answer, which it waits for up to a second."""
-        outcome = self.asked(*words)
+        outcome = self.run_script(*words)
         if NO_ANSWER.search(outcome.err):
             raise Late(outcome.err.strip())
         self.assertEqual("", outcome.err)
@@ -90,17 +90,17 @@ class FolderNightTest(ReceiverTest):
 
     def without_moments(self, *words):
         """The status of a command, and its answers without the moments."""
-        status, out, _ = self.answered(*words)
+        status, out, _ = self.command(*words)
         return status, re.sub(r"(?m)^\d+ ", "", out).splitlines()
 
-    def kept(self, *words, **options):
+    def keeper(self, *words, **options):
         """A keeper in the foreground."""
         words = [NIGHT, self.night, "start", *map(str, words)]
         return Keeper(self, words, env=self.environment, **options)
 
-    def begun(self):
+    def begin_night(self):
         """A night that has begun, with its keeper behind this terminal."""
-        status, out, err = self.asked("start", *self.words, "--background")
+        status, out, err = self.run_script("start", *self.words, "--background")
         self.assertEqual((0, ""), (status, err), out)
         self.assertIn("\nend ends the night", out)
         wait_for(lambda: self.came(0.05), "packets")

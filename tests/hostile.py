@@ -30,7 +30,7 @@ import changes  # noqa: E402  (tests/ is on the path from here on)
 import inputs  # noqa: E402
 from expected import runs, show as shows  # noqa: E402
 from expected.words import cue_number  # noqa: E402
-from program import CID, PROGRAM, told as without_remark  # noqa: E402
+from program import CID, PROGRAM, messages_in as without_remark  # noqa: E402
 from wire import free_port  # noqa: E402
 
 HUNG = -999
@@ -57,7 +57,7 @@ class Case:
     def weight(self):
         return len(self.parts) if self.job == "listen" else 1
 
-    def expected(self):
+    def expected_answer(self):
         if self.job == "check":
             return runs.check(*self.parts)
         if self.job == "cues":
@@ -104,7 +104,7 @@ class Runner:
         if case.job == "slots":
             return self.run(["slots", "-", case.cue, "--base", case.base], case.parts[0])
         if case.job == "listen":
-            return self.heard(case.parts)
+            return self.run_listen(case.parts)
         self.show.write_bytes(case.parts[0])
         if case.job == "rehearse":
             self.script.write_bytes(case.parts[1])
@@ -115,9 +115,9 @@ class Runner:
         return self.run(words, case.parts[1])
 
     def run(self, words, stdin):
-        return self.ended(self.begun(words, stdin))
+        return self.end_of(self.start(words, stdin))
 
-    def begun(self, words, stdin=b""):
+    def start(self, words, stdin=b""):
         for stream in self.streams:
             os.ftruncate(stream, 0)
             os.lseek(stream, 0, os.SEEK_SET)
@@ -125,7 +125,7 @@ class Runner:
         words = [str(word) for word in (PROGRAM, *words)]
         return os.posix_spawn(words[0], words, os.environ, file_actions=self.actions)
 
-    def ended(self, child):
+    def end_of(self, child):
         """How a run ended; one that does not end within a minute is ended."""
         process = os.pidfd_open(child)
         hung = not select.select([process], [], [], 60)[0]
@@ -135,48 +135,49 @@ class Runner:
         status = os.waitstatus_to_exitcode(os.waitpid(child, 0)[1])
         out, err = (os.pread(stream, os.fstat(stream).st_size, 0) for stream in self.streams[1:])
         return runs.Answer(
-            HUNG if hung else status, out, without_remark(err), tuple(self.received())
+            HUNG if hung else status, out, without_remark(err), tuple(self.datagrams())
         )
 
-    def received(self):
+    def datagrams(self):
         try:
             while True:
                 yield self.receiver.recv(65536)
         except BlockingIOError:
             return
 
-    def heard(self, datagrams):
+    def run_listen(self, datagrams):
         """A run of `listen` that is sent these datagrams once it has its socket."""
         at = "{}:{}".format(*self.listening)
-        child = self.begun(["listen", at, "1", str(len(datagrams))])
+        child = self.start(["listen", at, "1", str(len(datagrams))])
         bound = " 0100007F:{:04X} ".format(self.listening[1])
         until = time.monotonic() + 30
         while bound not in Path("/proc/net/udp").read_text() and time.monotonic() < until:
             time.sleep(0.001)
         for datagram in datagrams:
             self.sender.sendto(datagram, self.listening)
-        return self.ended(child)
+        return self.end_of(child)
 
 
-def made(r, job):
+def make_case(r, job):
     """A case by chance."""
     if job == "listen":
         datagrams = inputs.datagrams(r, DATAGRAMS)
         return Case(
-            job, tuple(changes.changed(r, each, changes.OF_BYTES, 1) for each in datagrams)
+            job, tuple(changes.with_changes(r, each, changes.OF_BYTES, 1) for each in datagrams)
         )
     base = r.choice([1] * 16 + [2, 63984, 63985, 63998, 63999])
     if job in ("check", "cues", "look", "slots"):
-        show = changes.changed(r, inputs.show(r, odd=0.004), changes.OF_TEXTS, 3)
+        show = changes.with_changes(r, inputs.show(r, odd=0.004), changes.OF_TEXTS, 3)
         cues = [f"{n // 1000}.{n % 1000:03}" for n in getattr(shows.read(show), "cues", ())]
         cue = r.choice(cues) if cues and r.random() < 0.9 else r.choice(inputs.CUES)
         return Case(job, (show,), cue, base)
     # Of what is played most is good, so that the runs come far.
-    show = changes.changed(r, inputs.show(r, odd=0.0002), changes.OF_TEXTS, r.choice([0, 0, 1]))
+    show = inputs.show(r, odd=0.0002)
+    show = changes.with_changes(r, show, changes.OF_TEXTS, r.choice([0, 0, 1]))
     if job == "rehearse":
-        script = changes.changed(r, inputs.script(r), changes.OF_TEXTS, r.choice([0, 0, 1, 2]))
+        script = changes.with_changes(r, inputs.script(r), changes.OF_TEXTS, r.choice([0, 0, 1, 2]))
         return Case(job, (show, script))
-    lines = changes.changed(r, inputs.play_lines(r), changes.OF_TEXTS, r.choice([0, 1, 2]))
+    lines = changes.with_changes(r, inputs.play_lines(r), changes.OF_TEXTS, r.choice([0, 1, 2]))
     return Case(job, (show, lines), base=base, priority=r.choice([100, 100, 0, 200]))
 
 
@@ -188,7 +189,7 @@ def cases(count, seed):
         job = r.choice(JOBS)
         if job == "listen" and r.randrange(DATAGRAMS):
             continue
-        case = made(r, job)
+        case = make_case(r, job)
         count -= case.weight()
         yield case
 
@@ -230,7 +231,7 @@ def smallest(case, fails, seconds):
     return case
 
 
-def told(case, expected, answer):
+def case_text(case, expected, answer):
     """A failing case, in words."""
     lines = [f"{case.job}, cue {case.cue}, base {case.base}, priority {case.priority}"]
     lines += [f"  given    {part!r}" for part in case.parts]
@@ -258,10 +259,12 @@ def first_failure(count, seed, seconds=20):
     done = ran = 0
     try:
         for case in cases(count, seed):
-            expected = case.expected()
+            expected = case.expected_answer()
             if runner.answer(case) != expected:
-                case = smallest(case, lambda less: runner.answer(less) != less.expected(), seconds)
-                return told(case, case.expected(), runner.answer(case)), done, ran
+                case = smallest(
+                    case, lambda less: runner.answer(less) != less.expected_answer(), seconds
+                )
+                return case_text(case, case.expected_answer(), runner.answer(case)), done, ran
             done += case.weight()
             ran += 1
         return None, done, ran

@@ -74,7 +74,7 @@ HARDER_LINES = ["UP x", "CHAN 1 x", "DOWN", "CLEAR ALL", "ENDDATA"]
 CIDS = [CID[:-1] + digit for digit in "123456"]
 
 
-def spelled(r, words, odd=0.01):
+def spelling(r, words, odd=0.01):
     """A line of these words: other separators, letters of either case, comments, blanks at its
     ends."""
     words = [r.choice(ODD) if r.random() < odd else word for word in words]
@@ -144,7 +144,7 @@ def show(r, odd):
         if r.random() < 0.6:
             lines.append(["PATCH", "1", *triples(r)])
     lines += [["ENDDATA"]] if r.random() < 0.3 else []
-    return text_of(r, [spelled(r, line, odd) for line in lines])
+    return text_of(r, [spelling(r, line, odd) for line in lines])
 
 
 def chained_show(r):
@@ -153,7 +153,7 @@ def chained_show(r):
     cues = CUES + ["4", "5", "6.6", "7", "8"]
     for n in r.sample(cues, r.randrange(4, len(cues))):
         lines += [["CUE", n], ["FOLLOWON", r.choice(FOLLOWS)]]
-    return "".join(spelled(r, line, odd=0) + "\n" for line in lines).encode("latin-1") + show(
+    return "".join(spelling(r, line, odd=0) + "\n" for line in lines).encode("latin-1") + show(
         r, odd=0
     )
 
@@ -171,7 +171,7 @@ def command(r):
     )  # fmt: skip
 
 
-def padded(r, value):
+def with_zeros(r, value):
     """A number, at times with zeros in front."""
     return f"{value:0{r.choice([1, 1, 1, 1, 1, 9, 15])}}"
 
@@ -188,7 +188,7 @@ def play_lines(r):
     lines = []
     for _, now in zip(range(r.randrange(4, 30)), moments(r)):
         words = ["tick"] if r.random() < 0.6 else command(r)
-        lines.append(spelled(r, [padded(r, now), *words], odd=0.003))
+        lines.append(spelling(r, [with_zeros(r, now), *words], odd=0.003))
         if r.random() < 0.03:
             lines.append(r.choice(["", "!", "\r", " " * 200, "!" * 200, " " * 201]))
     return text_of(r, lines)
@@ -210,8 +210,9 @@ def event(r, now, ticks):
         "stray": lambda: [datagram(r)[: r.choice([0, 200, 700])].hex()],
     }.get(name, list)()
     if name in ("do", "tick"):
-        return [padded(r, now), name, str(console), *given]
-    return [padded(r, now), name, receiver, *([str(console)] if name == "deliver" else []), *given]
+        return [with_zeros(r, now), name, str(console), *given]
+    of_console = [str(console)] if name == "deliver" else []
+    return [with_zeros(r, now), name, receiver, *of_console, *given]
 
 
 def script(r):
@@ -228,7 +229,7 @@ def script(r):
     ]
     for _, now in zip(range(r.randrange(10, 80)), moments(r)):
         lines.append(event(r, now, ticks))
-    return text_of(r, [spelled(r, line, odd=0.0005) for line in lines])
+    return text_of(r, [spelling(r, line, odd=0.0005) for line in lines])
 
 
 def uuid_word(r, cid):
@@ -293,9 +294,9 @@ def watch_lines(r, nights, universes):
                 else watched_datagram(r, r.choice(sources), numbers, universes).hex()
             )
             spelled_so = made.upper() if r.random() < 0.1 else made
-            lines.append([padded(r, max(moment - behind, 0)), *filter(None, [spelled_so])])
+            lines.append([with_zeros(r, max(moment - behind, 0)), *filter(None, [spelled_so])])
         moment += r.choice([2499, 2500, 2501, 9000])
-    return text_of(r, [spelled(r, words, odd=0) for words in lines])
+    return text_of(r, [spelling(r, words, odd=0) for words in lines])
 
 
 def watched_datagram(r, cid, numbers, universes):

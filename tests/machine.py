@@ -85,7 +85,7 @@ class Witness:
                 for stalls in self.stalls.values()
             ]
 
-    def stalled(self, since: float, until: float) -> float:
+    def stall(self, since: float, until: float) -> float:
         """For how many milliseconds of this stretch a processor let the nap wait: of the processor
         that did so the longest."""
         return max((sum(waits) for waits in self._waits(since, until)), default=0.0)
@@ -130,7 +130,7 @@ def in_time(each: Took, limit: float, what: str) -> None:
     stood still meanwhile."""
     if each.ms < limit:
         return
-    stalled = witness().stalled(each.since, each.until)
+    stalled = witness().stall(each.since, each.until)
     if each.ms >= limit + stalled:
         told = f"{what}: {each.ms:.0f} ms, and not {limit:.0f}"
         raise Late(f"{told}; the machine stood still for {stalled:.0f} ms of them")
@@ -154,7 +154,7 @@ class Naps:
                 self.stalls.append((due - USUAL, woke))
             self.count += 1
 
-    def noted(self, last: int) -> list[tuple[float, float]]:
+    def new_stalls(self, last: int) -> list[tuple[float, float]]:
         """The stalls since the last look, once so many naps have ended."""
         while self.count < last:
             time.sleep(NAP)
@@ -170,7 +170,8 @@ def main() -> None:
     for _ in sys.stdin:
         # By then a nap of this moment has ended on each.
         lasts = [each.count + 2 for each in naps]
-        noted = {each.processor: each.noted(last) for each, last in zip(naps, lasts, strict=True)}
+        pairs = zip(naps, lasts, strict=True)
+        noted = {each.processor: each.new_stalls(last) for each, last in pairs}
         print(json.dumps(noted), flush=True)
 
 

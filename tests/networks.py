@@ -101,21 +101,21 @@ class Node(Machine):
     def begin(self) -> None:
         """Sees what comes by its cable, from here on, and listens, so that it refuses nothing."""
         self.watch_cable()
-        self.listener = self.within(self._bound)
+        self.listener = self.within(self._bind)
         self.kept.callback(self.refuse)
 
     def watch_cable(self) -> None:
         """Sees what comes by its cable, which may be a new one."""
-        self.cable = self.within(self._tapped)
+        self.cable = self.within(self._tap)
         self.kept.callback(self.cable.close)
 
-    def _tapped(self) -> socket.socket:
+    def _tap(self) -> socket.socket:
         tap = socket.socket(socket.AF_PACKET, socket.SOCK_DGRAM, socket.htons(ETH_P_IP))
         tap.bind(("port", ETH_P_IP))
         tap.setsockopt(socket.SOL_SOCKET, socket.SO_RCVBUF, 1 << 22)
         return tap
 
-    def _bound(self) -> socket.socket:
+    def _bind(self) -> socket.socket:
         listener = socket.socket(socket.AF_INET, socket.SOCK_DGRAM)
         listener.bind(("0.0.0.0", PORT))
         return listener
@@ -232,7 +232,7 @@ class Night:
         self.type(line)
         return int(self.out.find(r"(\d+) (ok|where)\b")[1])
 
-    def told(self, *texts: str) -> None:
+    def wait_for_message(self, *texts: str) -> None:
         """Waits for one of these on standard error, behind its moment in hours, minutes and
         seconds."""
         self.err.find(rf"\d+:\d\d:\d\d ({'|'.join(map(re.escape, texts))})$")
@@ -249,7 +249,7 @@ def universes(came: list[Came]) -> set[int]:
 
 
 @functools.cache
-def missing() -> str | None:
+def obstacle() -> str | None:
     """Why no such network can be made here."""
     if os.geteuid() != 0:
         return "only root makes networks with cards"
@@ -270,7 +270,7 @@ class NetworkTest(unittest.TestCase):
 
     def setUp(self) -> None:
         super().setUp()
-        if reason := missing():
+        if reason := obstacle():
             self.skipTest(reason)
 
     def side_by_side(self, *cases: Callable[[ExitStack], None]) -> None:

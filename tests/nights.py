@@ -69,7 +69,7 @@ def play_nights(nights):
         yield from zip(nights, pool.map(play_night, nights))
 
 
-def asked(lines):
+def where_places(lines):
     """Of each line of `where` how many other lines stand above it, and its moment."""
     places, others = [], 0
     for line in lines:
@@ -80,9 +80,9 @@ def asked(lines):
     return places
 
 
-def expected(show, record, shown):
+def expected_lines(show, record, shown):
     """What a night must have shown, by its record. What it showed says where `where` was asked."""
-    return live.shown(shows.read(show), record, asked(shown))
+    return live.shown_lines(shows.read(show), record, where_places(shown))
 
 
 def without_help(lines):

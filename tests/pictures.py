@@ -110,7 +110,7 @@ class Darkroom:
     """Where pictures are made small, and looked into: a page of its own."""
 
     def __init__(self, browser: Browser) -> None:
-        self.page: BrowserPage = browser.opened("about:blank")
+        self.page: BrowserPage = browser.open_page("about:blank")
 
     def _value(self, call: str) -> Any:
         answer = self.page.call(
@@ -135,7 +135,7 @@ class Darkroom:
         found = bytes.fromhex(colours)
         return Squares(columns, [found[at : at + 3] for at in range(0, len(found), 4)])
 
-    def taken(self, page: BrowserPage) -> Taken:
+    def take(self, page: BrowserPage) -> Taken:
         """What a page shows now."""
         picture = page.call("Page.captureScreenshot", format="png")["data"]
         return Taken(self.small(base64.b64decode(picture)), page.value(BOXES))

@@ -8,7 +8,7 @@ import tempfile
 import unittest
 from pathlib import Path
 
-from program import PROGRAM, FolderTest, Outcome, told
+from program import PROGRAM, FolderTest, Outcome, messages_in
 
 COMPILER = shutil.which("cc")
 
@@ -27,7 +27,7 @@ class PreloadTest(FolderTest):
         source = Path(__file__).resolve().parent / cls.SOURCE
         subprocess.run([COMPILER, "-shared", "-fPIC", "-o", cls.library, source], check=True)
 
-    def preloaded(self, **variables):
+    def library_environment(self, **variables):
         """The environment of a run with the library, and what it is told."""
         return os.environ | {"LD_PRELOAD": str(self.library)} | variables
 
@@ -37,4 +37,4 @@ class PreloadTest(FolderTest):
             done = subprocess.run(
                 [PROGRAM, *words], stdin=given, capture_output=True, timeout=60, env=environment
             )
-        return Outcome(done.returncode, done.stdout, told(done.stderr))
+        return Outcome(done.returncode, done.stdout, messages_in(done.stderr))

@@ -42,7 +42,7 @@ START = re.compile(
 )
 
 
-def told(err):
+def messages_in(err):
     """Standard error without remarks, and without what `listen` and `live` tell before they
     begin."""
     lines = START.sub(b"", err).splitlines(keepends=True)
@@ -65,7 +65,7 @@ def run(*words, stdin=b"", **options):
     done = subprocess.run(
         [PROGRAM, *words], input=stdin, capture_output=True, timeout=60, **options
     )
-    return Outcome(done.returncode, done.stdout, told(done.stderr))
+    return Outcome(done.returncode, done.stdout, messages_in(done.stderr))
 
 
 def live_name(machine):
@@ -181,7 +181,7 @@ class ProgramTest(unittest.TestCase):
             done = subprocess.run(
                 [PROGRAM, *words], input=stdin, stdout=full, stderr=pipe, timeout=60
             )
-        self.assertEqual((5, DEVICE_FAULT), (done.returncode, told(done.stderr)))
+        self.assertEqual((5, DEVICE_FAULT), (done.returncode, messages_in(done.stderr)))
 
 
 class FolderTest(ProgramTest):

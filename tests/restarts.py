@@ -24,7 +24,7 @@ from expected.script import Console
 from expected.words import lines_of, uuid
 from machine import Took, by_clock
 from program import CID, LIVE_NAME, PROGRAM
-from wire import SEQUENCE, address_of, receiving
+from wire import SEQUENCE, address_of, receiver_socket
 
 HEAD = re.compile(
     rb"! cueplayer record 1: show (?P<show>[0-9a-f]{64})\n"
@@ -179,7 +179,7 @@ class KilledNight:
         self.text, self.env = show, env
         self.show, self.record = folder / "show.asc", folder / "night.play"
         self.show.write_bytes(show)
-        receiver = receiving()
+        receiver = receiver_socket()
         words = ["live", self.show, "--to", to or address_of(receiver), "--cid", cid]
         self.words = [program, *words, "--record", self.record, *options]
         self.ear = Ear(receiver)
@@ -194,11 +194,11 @@ class KilledNight:
         self, *options: str, resume: bool = True, limit: int | None = None
     ) -> subprocess.Popen:
         """Starts a process of the night, whose files may have a limit."""
-        night = self._started([*options, *(["--resume"] if resume else [])], limit)
+        night = self._start([*options, *(["--resume"] if resume else [])], limit)
         self.processes.append(night)
         return night
 
-    def _started(self, options: list[str], limit: int | None = None) -> subprocess.Popen:
+    def _start(self, options: list[str], limit: int | None = None) -> subprocess.Popen:
         """Its outputs are pipes that have room for what it tells."""
         pipe = subprocess.PIPE
         limited = None if limit is None else lambda: limit_files(limit)
@@ -209,7 +209,7 @@ class KilledNight:
 
     def stand_by(self, *options: str) -> subprocess.Popen:
         """Starts a spare."""
-        self.spare = self._started([*options, "--resume", "--spare"])
+        self.spare = self._start([*options, "--resume", "--spare"])
         return self.spare
 
     def stands_by(self, *options: str) -> subprocess.Popen:
@@ -249,7 +249,7 @@ class KilledNight:
     def type(self, line: bytes) -> None:
         self.processes[-1].stdin.write(line)
 
-    def typed(self, lines: bytes) -> None:
+    def type_commands(self, lines: bytes) -> None:
         """Types commands, lines that are recorded as they are, and waits until a tick has come
         behind them: they were carried out and answered."""
         before = self.record.stat().st_size
@@ -299,9 +299,9 @@ class KilledNight:
     def end(self, line: bytes = b"end\n") -> int:
         """Types the line that ends the night, and answers the status."""
         self.type(line)
-        return self.ended()
+        return self.end_status()
 
-    def ended(self) -> int:
+    def end_status(self) -> int:
         """Waits until the process that plays has ended, and answers the status."""
         status = self.processes[-1].wait(PATIENCE)
         self.ear.settle()
@@ -318,7 +318,7 @@ class KilledNight:
             if not lines[-1]:
                 raise Wrong(f"{pattern!r} is not told: {lines}")
 
-    def told(self) -> list[tuple[bytes, bytes]]:
+    def outputs(self) -> list[tuple[bytes, bytes]]:
         """What each process printed and told. None of them runs any more."""
         return [
             (each.stdout.read(), b"".join(self.lines.get(each.pid, [])) + each.stderr.read())
@@ -378,7 +378,7 @@ class Judge:
         that the process before it is gone."""
         return sum(first < kill.done and kill.at < last for kill in self.kills)
 
-    def lost(self) -> int:
+    def lost_packets(self) -> int:
         """How many packets were lost: at most one of a universe at a kill, and else none."""
         times = {place: each.at for each, place in zip(self.heard, self.places)}
         latest: dict = {}
@@ -434,4 +434,4 @@ class Judge:
             1000 * (each.at - zero) - self.sent[before].moment
             for each, before in zip(self.heard[1:], self.places)
         ]
-        return Figures(self.gaps(), max(behind), self.lost(), self.drifts())
+        return Figures(self.gaps(), max(behind), self.lost_packets(), self.drifts())

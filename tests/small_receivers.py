@@ -327,7 +327,7 @@ class StopsAtCutDatagrams(Small):
             super().take(moment, data, sender)
 
 
-def overlooking(rule, first, last):
+def blind_to(rule, first, last):
     """A receiver that does not look at these bytes."""
     right = bytes.fromhex("00100000") + b"ASC-E1.17\0\0\0" + bytes(2) + bytes.fromhex("00000004")
     right = right.ljust(40, b"\0") + bytes.fromhex("00000002")
@@ -344,7 +344,7 @@ def overlooking(rule, first, last):
 
 
 OVERLOOKING = tuple(
-    overlooking(*row)
+    blind_to(*row)
     for row in (
         ("preamble size", 0, 2),
         ("packet identifier", 4, 16),

@@ -40,7 +40,7 @@ def levels():
     return found + [(moment + n * TICK, ENDING, 0) for n in range(3)]
 
 
-def heard(sent=None, universe=1, to="239.255.0.1", first=0, **fields):
+def datagrams(sent=None, universe=1, to="239.255.0.1", first=0, **fields):
     """The datagrams of such packets, numbered from the first on."""
     return [
         Heard(
@@ -65,14 +65,14 @@ def at(datagrams, places, offset, value):
 
 def both():
     """Two universes of one source, between each other."""
-    datagrams = heard() + heard(universe=2, to="239.255.0.2", first=77)
-    return sorted(datagrams, key=lambda one: one.moment)
+    found = datagrams() + datagrams(universe=2, to="239.255.0.2", first=77)
+    return sorted(found, key=lambda one: one.moment)
 
 
 def without(keeps):
     """Packets that are kept, numbered without gaps."""
     sent = levels()
-    return heard([one for place, one in enumerate(sent) if keeps(place, sent)])
+    return datagrams([one for place, one in enumerate(sent) if keeps(place, sent)])
 
 
 def is_no_repeat(place, sent):
@@ -92,46 +92,46 @@ def fast():
     moving = [(n * 0.016, 0, n) for n in range(1, 125)]
     last = moving[-1]
     rest = [(last[0] + n * TICK, 0, last[2]) for n in range(1, 4)]
-    return heard(moving + rest + [(rest[-1][0] + n * TICK, ENDING, 0) for n in range(1, 4)])
+    return datagrams(moving + rest + [(rest[-1][0] + n * TICK, ENDING, 0) for n in range(1, 4)])
 
 
-def named(name):
+def source_name(name):
     """A source of this name, in its 64 bytes."""
-    return at(heard(), range(len(levels())), 44, name.ljust(64, b"\0"))
+    return at(datagrams(), range(len(levels())), 44, name.ljust(64, b"\0"))
 
 
 ALL = range(len(levels()))
 # The rule that is broken, and by what.
 BREAKING = (
     *(
-        ("fields", at(heard(), ALL, offset, value))
+        ("fields", at(datagrams(), ALL, offset, value))
         for offset, value in (
             (1, b"\x11"), (3, b"\4"), (12, b"8"), (21, b"\5"), (43, b"\3"),
             (117, b"\3"), (118, b"\xa2"), (120, b"\1"), (122, b"\2"),
         )
     ),
     *(
-        ("lengths", at(heard(), (5,), offset, bytes.fromhex(value)))
+        ("lengths", at(datagrams(), (5,), offset, bytes.fromhex(value)))
         for offset, value in (
             (16, "626e"), (16, "726f"), (38, "7257"), (115, "720c"), (123, "0200"), (123, "0202"),
         )
     ),
-    ("lengths", [*heard(), Heard(0.5, heard()[0].data[:100], SENDER, "239.255.0.1")]),
-    ("CID", at(heard(), ALL, 22, bytes(16))),
-    ("CID", heard() + heard(universe=2, to="239.255.0.2", cid=CID[:-1] + "2")),
-    ("source name", named(b"x" * 64)),
-    ("source name", named(b"B\xfchne")),
-    ("source name", at(heard(), (7,), 44, b"another")),
-    ("priority", at(heard(), (3,), 108, b"\xc9")),
-    ("synchronized by", at(heard(), (3,), 109, b"\xfa\x00")),
-    ("numbering", heard()[:5] + heard()[6:]),
-    ("numbering", at(heard(), (9,), 111, bytes([8]))),
-    ("reserved options", at(heard(), (3,), 112, b"\1")),
-    ("universe", heard(universe=64000, to="10.0.0.9")),
-    ("universe", heard(to="239.255.1.0")),
+    ("lengths", [*datagrams(), Heard(0.5, datagrams()[0].data[:100], SENDER, "239.255.0.1")]),
+    ("CID", at(datagrams(), ALL, 22, bytes(16))),
+    ("CID", datagrams() + datagrams(universe=2, to="239.255.0.2", cid=CID[:-1] + "2")),
+    ("source name", source_name(b"x" * 64)),
+    ("source name", source_name(b"B\xfchne")),
+    ("source name", at(datagrams(), (7,), 44, b"another")),
+    ("priority", at(datagrams(), (3,), 108, b"\xc9")),
+    ("synchronized by", at(datagrams(), (3,), 109, b"\xfa\x00")),
+    ("numbering", datagrams()[:5] + datagrams()[6:]),
+    ("numbering", at(datagrams(), (9,), 111, bytes([8]))),
+    ("reserved options", at(datagrams(), (3,), 112, b"\1")),
+    ("universe", datagrams(universe=64000, to="10.0.0.9")),
+    ("universe", datagrams(to="239.255.1.0")),
     ("repeats", without(is_no_repeat)),
     ("keep-alive", without(is_not_kept_alive)),
     ("rate", fast()),
-    ("termination", heard()[:-1]),
-    ("termination", heard()[:-3]),
+    ("termination", datagrams()[:-1]),
+    ("termination", datagrams()[:-3]),
 )

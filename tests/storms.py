@@ -107,7 +107,7 @@ class Watched:
             at, console, k = self.arrivals.pop()
             self.receiver.take(at, self.players[console].datagram(self.universe, k))
 
-    def shown(self, moment):
+    def shown_slots(self, moment):
         """The slots that are not 0, by their numbers."""
         lit = [each.data for each in self.receiver.records.values() if each.is_lit(moment)]
         first = max((data.priority for data in lit), default=0)
@@ -119,7 +119,7 @@ class Watched:
                         slots[slot] = max(slots.get(slot, 0), byte)
         return slots
 
-    def merged(self, players):
+    def merge(self, players):
         """What these consoles mean together, those of the greatest priority."""
         lit = [each for each in players if each.means is not None]
         first = max((each.console.priority for each in lit), default=0)
@@ -162,7 +162,7 @@ class Sums:
     def look(self, moment):
         """Adds a step."""
         watched = self.watched
-        shown, meant = watched.shown(moment), watched.merged(watched.players)
+        shown, meant = watched.shown_slots(moment), watched.merge(watched.players)
         if shown != meant:
             if not self.stretches or self.stretches[-1][1] != moment:
                 self.stretches.append([moment, moment, 0, 0])
@@ -177,10 +177,10 @@ class Sums:
         if has_window and settled:
             self.promised += STEP
             heard = [p for c, p in enumerate(watched.players) if states.get(c) == "fresh"]
-            self.broken += STEP * (shown != watched.merged(heard))
+            self.broken += STEP * (shown != watched.merge(heard))
 
 
-def judged(players, came, first, last):
+def verdicts(players, came, first, last):
     """What becomes of each universe between two moments. `came` has, by console and universe, the
     moment and the number of what came."""
     sums = []
@@ -245,7 +245,7 @@ def small_network(chance, seed, last):
     )
 
 
-def stepped(traffic):
+def arrive_at_looks(traffic):
     """Lets all arrive at moments that are looked at."""
     for each in traffic.values():
         each.came = sorted((-(-moment // STEP) * STEP, k) for moment, k in each.came)

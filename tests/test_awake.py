@@ -46,13 +46,13 @@ class Awake(OutputsTest):
             "ASKED": str(self.log),
         }
 
-    def asked(self) -> list[str]:
+    def requests(self) -> list[str]:
         return self.log.read_text().splitlines() if self.log.exists() else []
 
     def awaits(self, *lines: str) -> None:
         """These lines come, and no others."""
-        wait_for(lambda: len(self.asked()) >= len(lines), lines)
-        self.assertEqual(list(lines), self.asked())
+        wait_for(lambda: len(self.requests()) >= len(lines), lines)
+        self.assertEqual(list(lines), self.requests())
 
     def files(self) -> set[str]:
         """The files of the process that keeps the machine awake, once it does so."""
@@ -71,7 +71,7 @@ class Awake(OutputsTest):
             with self.subTest(program=program.name):
                 self.log.unlink(missing_ok=True)
                 self.env["CUEPLAYER"] = str(program)
-                night = self.begun("--record", self.folder / f"{program.parent.name}.play")
+                night = self.begin_night("--record", self.folder / f"{program.parent.name}.play")
                 self.light(night, b"sub 1 FL\n", 128)
                 request = REQUEST.format(ALL, night.pid)
                 self.awaits(request)
@@ -81,7 +81,7 @@ class Awake(OutputsTest):
                 self.assertEqual(b"", night.stderr.read())
 
     def test_killed(self) -> None:
-        night = self.begun()
+        night = self.begin_night()
         self.light(night, b"sub 1 FL\n", 128)
         request = REQUEST.format(ALL, night.pid)
         self.awaits(request)
@@ -96,7 +96,7 @@ class Awake(OutputsTest):
             with self.subTest(refused=refused):
                 self.log.unlink(missing_ok=True)
                 self.env["REFUSED"] = " ".join(refused)
-                night = self.begun()
+                night = self.begin_night()
                 self.light(night, b"sub 1 FL\n", 128)
                 requests = [REQUEST.format(each, night.pid) for each in (ALL, IDLE)]
                 self.awaits(*requests)
@@ -109,13 +109,13 @@ class Awake(OutputsTest):
         """A run that plays nothing live does not ask."""
         words = [str(self.PROGRAM), "check", str(TOP / "examples/small-play.asc")]
         subprocess.run(words, env=self.env, check=True, stdout=subprocess.DEVNULL)
-        self.assertEqual([], self.asked())
+        self.assertEqual([], self.requests())
 
     @unittest.skipIf(Path("/run/dbus/system_bus_socket").exists(), "this machine has a system bus")
     def test_no_bus(self) -> None:
         """There is nobody to ask."""
         del self.env["DBUS_SYSTEM_BUS_ADDRESS"]
-        night = self.begun()
+        night = self.begin_night()
         self.light(night, b"sub 1 FL\n", 128)
         self.assertEnds(night)
-        self.assertEqual([], self.asked())
+        self.assertEqual([], self.requests())

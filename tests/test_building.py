@@ -18,7 +18,7 @@ FIRST = "proving and building cueplayer: "
 LAST = "dist/ has the program: ./cueplayer runs it"
 
 
-def proved(*crates: str) -> str:
+def proof_output(*crates: str) -> str:
     """What `rt ci` prints of crates that it proved, among lines of their own."""
     return "".join(
         f"echo '== {name}'; echo 'fn {name}::f: proved'; echo 'rt: {name} proved'\n"
@@ -26,7 +26,7 @@ def proved(*crates: str) -> str:
     )
 
 
-def kept(crate: str) -> str:
+def kept_output(crate: str) -> str:
     """What it prints of one that an earlier run proved."""
     return f"echo 'rt: {crate} is kept: an earlier run on this machine proved the same'\n"
 
@@ -40,23 +40,23 @@ class Building(CopiedLayout):
     def setUp(self):
         super().setUp()
         shutil.copy(ONE, self.top / "made")
-        self.before = self.shipped()
+        self.before = self.dist_files()
 
-    def shipped(self) -> dict[str, bytes]:
+    def dist_files(self) -> dict[str, bytes]:
         return {path.name: path.read_bytes() for path in (self.top / "dist").iterdir()}
 
-    def said(self) -> dict[str, str]:
+    def provenance_fields(self) -> dict[str, str]:
         """What PROVENANCE says."""
         return dict(line.split(": ", 1) for line in self.provenance.read_text().splitlines())
 
-    def told(self, err: str) -> list[str]:
+    def messages(self, err: str) -> list[str]:
         """The lines of standard error, without the times."""
         return [re.sub(r", \d+:\d\d$", "", line) for line in err.splitlines()]
 
     def assertBuilds(self, *lines: str):
         """It tells these lines between its first and its last, and dist/ has what was built."""
         status, out, err = self.run_script("build")
-        first, *rest, last = self.told(err)
+        first, *rest, last = self.messages(err)
         self.assertEqual((0, "", [*lines], LAST), (status, out, rest, last), err)
         self.assertTrue(first.startswith(FIRST))
         self.assertNothingLeft()
@@ -64,7 +64,7 @@ class Building(CopiedLayout):
     def assertNothingLeft(self):
         """Neither a copy, nor a half of dist/, nor anything in the tree."""
         self.assertEqual([], list((self.top / "tmp").iterdir()))
-        self.assertEqual(["PROVENANCE", "cueplayer"], sorted(self.shipped()))
+        self.assertEqual(["PROVENANCE", "cueplayer"], sorted(self.dist_files()))
         self.assertFalse(self.built.exists())
 
     def assertFails(self, *telling: str):
@@ -73,7 +73,7 @@ class Building(CopiedLayout):
         self.assertEqual((1, ""), (status, out))
         for line in telling:
             self.assertIn(line, err)
-        self.assertEqual(self.before, self.shipped())
+        self.assertEqual(self.before, self.dist_files())
         return err
 
     def assertInterrupted(self, interruption: signal.Signals):
@@ -83,7 +83,7 @@ class Building(CopiedLayout):
         started.communicate(timeout=60)
         self.assertEqual(128 + interruption, started.returncode)
         self.wait_for(lambda: not Path(f"/proc/{number}").exists())
-        self.assertEqual(self.before, self.shipped())
+        self.assertEqual(self.before, self.dist_files())
         self.assertNothingLeft()
         (self.top / "number").unlink()
 
@@ -96,7 +96,7 @@ class Building(CopiedLayout):
         """The program of dist/ is the one that was built, and PROVENANCE says what it was made
         of."""
         self.assertBuilds()
-        said = self.said()
+        said = self.provenance_fields()
         self.assertEqual(["version", "toolchain", "sources", "program", "built"], list(said))
         self.assertEqual("kit of a test", said["toolchain"])
         self.assertEqual(self.sources(), said["sources"])
@@ -109,7 +109,10 @@ class Building(CopiedLayout):
         """Proved or kept, as it comes, with the time so far."""
         self.write(
             "proving",
-            proved("low") + kept("show") + "sleep 1.1\n" + proved("middle", "cueplayer"),
+            proof_output("low")
+            + kept_output("show")
+            + "sleep 1.1\n"
+            + proof_output("middle", "cueplayer"),
         )
         lines = [
             "   1 of 4  low",
@@ -142,15 +145,15 @@ class Building(CopiedLayout):
         self.assertEqual(sorted(CRATES), sorted(named))
         self.assertEqual("no CI\n", (self.top / "ci").read_text())
         self.assertNotEqual(f"{self.top}\n", (self.top / "place").read_text())
-        self.assertEqual(["rt ci", "rt version"], self.asked())
+        self.assertEqual(["rt ci", "rt version"], self.requests())
 
     def test_same_again(self):
         """Where nothing differs dist/ stays, the date too."""
         self.assertBuilds()
-        before = self.shipped()
+        before = self.dist_files()
         time.sleep(1.1)
         self.assertBuilds()
-        self.assertEqual(before, self.shipped())
+        self.assertEqual(before, self.dist_files())
 
     def test_refreshes(self):
         """Another program or other sources; who runs the old program has it whole."""
@@ -163,7 +166,7 @@ class Building(CopiedLayout):
             old.seek(0)
             self.assertEqual(program, old.read())
         self.assertNotEqual(program, self.program.read_bytes())
-        self.assertEqual(self.sources(), self.said()["sources"])
+        self.assertEqual(self.sources(), self.provenance_fields()["sources"])
 
     def test_first_build(self):
         shutil.rmtree(self.top / "dist")
@@ -174,13 +177,14 @@ class Building(CopiedLayout):
         before = self.sources()
         self.write("proving", 'echo other >"$PROVER_TOP/crates/low/src/lib.rt"\n')
         self.assertBuilds()
-        self.assertEqual(before, self.said()["sources"])
+        self.assertEqual(before, self.provenance_fields()["sources"])
         self.assertNotEqual(before, self.sources())
 
     def test_what_is_not_proved(self):
         """Its lines are told, without those of what is proved."""
         faulty = "echo '== middle'; echo 'fn middle::g: proved'; echo 'fn middle::f: not proved'\n"
-        self.write("proving", proved("low") + faulty + "echo 'rt: middle NOT PROVED'; exit 1\n")
+        fails = faulty + "echo 'rt: middle NOT PROVED'; exit 1\n"
+        self.write("proving", proof_output("low") + fails)
         err = self.assertFails(
             "fn middle::f: not proved", "rt: middle NOT PROVED", "build: not proved, so"
         )
@@ -194,7 +198,7 @@ class Building(CopiedLayout):
     def test_interruptions(self):
         """Neither half a program is left, nor a temporary file, nor the prover; and it can be done
         again."""
-        self.write("proving", proved("low") + GOES_ON)
+        self.write("proving", proof_output("low") + GOES_ON)
         for interruption in (signal.SIGTERM, signal.SIGINT, signal.SIGHUP):
             with self.subTest(interruption):
                 self.assertInterrupted(interruption)

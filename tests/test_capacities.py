@@ -49,7 +49,7 @@ class Capacities(PreloadTest):
         self.noted = self.file("noted", b"\xff" * 16 * ROOM)
 
     def environment(self):
-        return self.preloaded(COUNTED=str(self.noted))
+        return self.library_environment(COUNTED=str(self.noted))
 
     def notes(self):
         """The notes of the last run."""

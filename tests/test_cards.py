@@ -43,7 +43,7 @@ class CardsTest(NetworkTest, FolderTest):
         # How long it took to tell each trouble.
         self.waits = []
 
-    def sent(self, venue, *words, cid=None):
+    def arrivals(self, venue, *words, cid=None):
         """What the office and the stage get of a run of `play`, under a CID of its own."""
         cid = cid or str(uuid.uuid4())
         done = venue.run("play", self.show, "--cid", cid, *words, stdin=ONE_TICK)
@@ -65,7 +65,7 @@ class CardsTest(NetworkTest, FolderTest):
         """What happens inside is told within two seconds, in one of these words."""
         before = time.monotonic()
         yield
-        night.told(*texts)
+        night.wait_for_message(*texts)
         self.waits.append(took(before))
         in_time(self.waits[-1], SOON, texts[0])
 
@@ -91,12 +91,12 @@ class Ways(CardsTest):
         )
 
     def default_route(self, kept):
-        office, stage = self.sent(Venue(kept), "--to", MULTICAST)
+        office, stage = self.arrivals(Venue(kept), "--to", MULTICAST)
         self.assertEqual((groups(1, 2), []), (hosts(office), stage))
         self.assertEqual({EVERYDAY}, {each.source for each in office})
 
     def named_card(self, kept, name="lit"):
-        office, stage = self.sent(Venue(kept), "--to", MULTICAST, "--interface", name)
+        office, stage = self.arrivals(Venue(kept), "--to", MULTICAST, "--interface", name)
         self.assertEqual(([], groups(1, 2)), (office, hosts(stage)))
         self.assertEqual({LIT}, {each.source for each in stage})
 
@@ -104,32 +104,32 @@ class Ways(CardsTest):
         self.named_card(kept, LIT)
 
     def both_nodes(self, kept):
-        office, stage = self.sent(Venue(kept), "--to", OFFICE, "--to", STAGE)
+        office, stage = self.arrivals(Venue(kept), "--to", OFFICE, "--to", STAGE)
         self.assertEqual([{1, 2}] * 2, [universes(office), universes(stage)])
         found = {(each.source, each.to) for each in office + stage}
         self.assertEqual({(EVERYDAY, OFFICE), (LIT, STAGE)}, found)
 
     def any_route(self, kept):
         words = ("--to", OFFICE, "--interface", "lit", "--any-route")
-        office, stage = self.sent(Venue(kept), *words)
+        office, stage = self.arrivals(Venue(kept), *words)
         self.assertEqual(({1, 2}, []), (universes(office), stage))
         self.assertEqual({(LIT, OFFICE)}, {(each.source, each.to) for each in office})
 
     def one_elsewhere(self, kept):
-        office, stage = self.sent(Venue(kept), "--to", MULTICAST, "--to", f"2={STAGE}")
+        office, stage = self.arrivals(Venue(kept), "--to", MULTICAST, "--to", f"2={STAGE}")
         self.assertEqual((groups(1), {STAGE}), (hosts(office), hosts(stage)))
         self.assertEqual(({1}, {2}), (universes(office), universes(stage)))
 
     def several_of_one(self, kept):
         named = (STAGE, f"1={MULTICAST}", f"1-2={STAGE}", f"1={OFFICE}")
-        office, stage = self.sent(Venue(kept), *(f"--to={word}" for word in named))
+        office, stage = self.arrivals(Venue(kept), *(f"--to={word}" for word in named))
         self.assertEqual(["239.255.0.1", OFFICE], [each.to for each in office])
         self.assertEqual((2, {1, 2}), (len(stage), universes(stage)))
         self.assertEqual(1, len({each.packet for each in [*office, stage[0]]}))
 
     def each_its_own(self, kept):
         words = ("--to", f"1={OFFICE}", "--to", f"2-2={STAGE}")
-        office, stage = self.sent(Venue(kept), *words)
+        office, stage = self.arrivals(Venue(kept), *words)
         self.assertEqual(({1}, {2}), (universes(office), universes(stage)))
 
     def three_at_one_network(self, kept):
@@ -144,21 +144,22 @@ class Ways(CardsTest):
         wait_for(lambda: venue.is_up(4), "the further cards are up")
         for card, address in addresses.items():
             for word in (card, address):
-                office, stage = self.sent(venue, "--to", MULTICAST, "--interface", word)
+                office, stage = self.arrivals(venue, "--to", MULTICAST, "--interface", word)
                 came = more[card].came()
                 self.assertEqual(([], [], groups(1, 2)), (office, stage, hosts(came)))
                 self.assertEqual({address}, {each.source for each in came})
 
     def plain_packet(self, kept):
         """The time to live is 1 where none is named."""
-        _, stage = self.sent(Venue(kept), "--to", MULTICAST, "--interface", "lit", "--name", "x")
+        words = ("--to", MULTICAST, "--interface", "lit", "--name", "x")
+        _, stage = self.arrivals(Venue(kept), *words)
         self.assertEqual({1}, {each.ttl for each in stage})
 
     def named_packet(self, kept):
         """It and the source's name are whole in each packet."""
         name = "Main \u00e9" + "n" * 56
         words = ("--to", MULTICAST, "--interface", "lit", "--ttl", "255", "--name", name)
-        _, stage = self.sent(Venue(kept), *words, cid=CID)
+        _, stage = self.arrivals(Venue(kept), *words, cid=CID)
         wanted = [packet(universe, {1: 128}, cid=CID, name=name) for universe in (1, 2)]
         self.assertEqual({255}, {each.ttl for each in stage})
         self.assertEqual(wanted, [each.packet for each in stage])
@@ -168,10 +169,11 @@ class Starts(CardsTest):
     """What a night says of cards at its start."""
 
     def test_start(self):
-        cases = (self.named, self.default_route, self.local_route, self.several, self.one_card)
-        self.side_by_side(*cases, self.many_routes, self.tied_socket, self.joined_group)
+        cases = (self.card_by_word, self.default_route, self.local_route, self.several)
+        others = (self.one_card, self.many_routes, self.tied_socket, self.joined_group)
+        self.side_by_side(*cases, *others)
 
-    def named(self, kept):
+    def card_by_word(self, kept):
         """By either form of the word."""
         venue = Venue(kept)
         for word in ("lit", LIT):
@@ -275,7 +277,7 @@ class Watch(CardsTest):
     def assertToldAgain(self, night, told):
         """A `where` tells what is wrong once more."""
         night.ask()
-        night.told(told)
+        night.wait_for_message(told)
 
     def assertStillTold(self, night, told):
         """Some looks later nothing else was told, and a `where` tells what is wrong once more."""
@@ -436,7 +438,7 @@ class Watch(CardsTest):
             pass
         self.assertToldAgain(night, self.NOBODY)
         venue.stage.ip("addr add 10.101.2.77/24 dev port")
-        night.told("10.101.2.77 answers")
+        night.wait_for_message("10.101.2.77 answers")
         self.assertEqual({"10.101.2.77"}, hosts(venue.stage.wait()))
 
     def no_such_gateway(self, kept):
@@ -448,7 +450,7 @@ class Watch(CardsTest):
         with self.soon(night, f"{nobody}; check the gateway to 10.101.9.7"):
             pass
         venue.stage.ip("addr add 10.101.2.254/24 dev port")
-        night.told("10.101.2.254 answers")
+        night.wait_for_message("10.101.2.254 answers")
 
     def other_gateway(self, kept):
         """The route leads by another gateway then: that it answers is told once it does."""
@@ -462,7 +464,7 @@ class Watch(CardsTest):
         venue.console.ip("route replace 10.101.9.0/24 via 10.101.2.253 dev lit")
         self.assertStillTold(night, told.format(253))
         venue.stage.ip("addr add 10.101.2.253/24 dev port")
-        night.told("10.101.2.253 answers")
+        night.wait_for_message("10.101.2.253 answers")
 
     def cable_out_of_no_node(self, kept):
         """A link that is back says of no node that it answers."""
@@ -526,7 +528,7 @@ class Staying(CardsTest):
         case.__name__ = f"{of_change.__name__}: {lines[0]}"
         return case
 
-    def fading(self, kept, venue, *options, **source):
+    def night_in_fade(self, kept, venue, *options, **source):
         """A night in a fade, and what the stage has of it so far."""
         night = Night(kept, venue, self.show, *options, **source)
         night.ask("goto 1 in 5")
@@ -544,15 +546,15 @@ class Staying(CardsTest):
         venue = Venue(kept)
         record = self.folder / f"{venue.console.name}.play"
         cid = str(uuid.uuid4())
-        night, came = self.fading(kept, venue, "--to", STAGE, "--record", record, cid=cid)
+        night, came = self.night_in_fade(kept, venue, "--to", STAGE, "--record", record, cid=cid)
         venue.console.ip(*lines)
         time.sleep(A_TICK)
         came += venue.stage.came(0)
         lost = self.assertStays(venue, night)
         self.assertEqual([], venue.stage.came())
-        self.assertEqual(self.offered(venue, record, cid), len(came) + lost)
+        self.assertEqual(self.packet_count(venue, record, cid), len(came) + lost)
 
-    def offered(self, venue, record, cid):
+    def packet_count(self, venue, record, cid):
         """How many packets a night sends, by `play` of its record."""
         words = ("play", self.show, "--to", OFFICE, "--cid", cid, "--name", LIVE_NAME)
         done = venue.run(*words, stdin=record.read_bytes())
@@ -562,7 +564,7 @@ class Staying(CardsTest):
     def to_groups(self, kept, lines):
         """Multicast leaves by the card of its address, whatever routes there are."""
         venue = Venue(kept)
-        night, _ = self.fading(kept, venue, "--to", MULTICAST, "--interface", "lit")
+        night, _ = self.night_in_fade(kept, venue, "--to", MULTICAST, "--interface", "lit")
         venue.console.ip(*lines)
         time.sleep(DURING)
         night.end()
@@ -574,7 +576,7 @@ class Staying(CardsTest):
         passed_over = "net.ipv4.conf.all.ignore_routes_with_linkdown=1"
         words = venue.console.words("sysctl", "-qw", passed_over)
         subprocess.run(words, check=True)
-        night, _ = self.fading(kept, venue, "--to", STAGE)
+        night, _ = self.night_in_fade(kept, venue, "--to", STAGE)
         venue.stage.ip("link set port down")
         self.assertGreater(self.assertStays(venue, night), 0)
 
@@ -585,7 +587,7 @@ class Staying(CardsTest):
         venue = Venue(kept)
         words = venue.console.words("sysctl", "-qw", "net.ipv6.bindv6only=1")
         subprocess.run(words, check=True)
-        night, _ = self.fading(kept, venue, "--to", STAGE)
+        night, _ = self.night_in_fade(kept, venue, "--to", STAGE)
         venue.console.ip("link set lit down")
         time.sleep(DURING)
         night.end()

@@ -27,7 +27,7 @@ from cueplayer_tools.conform.rules import RULES
 from cueplayer_tools.conform.source_rules import RULES as SOURCE_RULES
 from cueplayer_tools.conform.source_rules import judged_source
 from cueplayer_tools.conform.streams import listening_of
-from cueplayer_tools.conform.trial import Setting, tried
+from cueplayer_tools.conform.trial import Setting, try_all
 from cueplayer_tools.conform_command import main
 
 CASES = {rule.name: {case.name for case in rule.cases} for rule in RULES}
@@ -75,10 +75,10 @@ class InMemory:
 
 def verdicts(kind, rules=RULES, **options):
     clock = SteppedClock()
-    return tried(Setting(lambda: InMemory(kind, clock, **options), clock), True, rules)
+    return try_all(Setting(lambda: InMemory(kind, clock, **options), clock), True, rules)
 
 
-def broken(found):
+def broken_cases(found):
     """The cases that were broken, by their rules."""
     cases = {}
     for each in found:
@@ -147,9 +147,9 @@ class Receivers(unittest.TestCase):
     def test_sound_ones(self):
         """A small receiver that keeps to the rules breaks none, and the second reader makes our
         choices."""
-        self.assertEqual({}, broken(verdicts(Small)))
+        self.assertEqual({}, broken_cases(verdicts(Small)))
         found = verdicts(SecondReader)
-        self.assertEqual({}, broken(found))
+        self.assertEqual({}, broken_cases(found))
         self.assertEqual(OURS, choices(found))
 
     def test_broken_ones(self):
@@ -159,7 +159,7 @@ class Receivers(unittest.TestCase):
         for kind in small_receivers.BREAKING:
             with self.subTest(kind.__name__):
                 caught = set(kind.caught) or CASES[kind.rule]
-                self.assertEqual({kind.rule: caught}, broken(verdicts(kind)))
+                self.assertEqual({kind.rule: caught}, broken_cases(verdicts(kind)))
                 catching[kind.rule] |= caught
         self.assertGreaterEqual(len(small_receivers.BREAKING), 20)
         for rule in RULES:
@@ -170,11 +170,11 @@ class Receivers(unittest.TestCase):
     def test_choices(self):
         """What the standard leaves open is no fault."""
         found = verdicts(Holds)
-        self.assertEqual({}, broken(found))
+        self.assertEqual({}, broken_cases(found))
         told = choices(found)
         self.assertEqual({"holds the last look"}, told["look at loss"] | told["termination"])
         found = verdicts(ShowsTheNewest)
-        self.assertEqual({}, broken(found))
+        self.assertEqual({}, broken_cases(found))
         told = choices(found)
         self.assertEqual({"the last packet"}, told["merge"])
         self.assertEqual({"the newest source alone"}, told["number of sources"])
@@ -187,7 +187,7 @@ class Receivers(unittest.TestCase):
         for kind in (Small, Holds, ShowsTheNewest):
             kept = kind(7)
             found = verdicts(lambda _, one=kept: one, universes=(7,))
-            self.assertEqual({}, broken(found))
+            self.assertEqual({}, broken_cases(found))
             self.assertEqual(choices(verdicts(kind)), choices(found))
 
     def test_peer_that_ends(self):
@@ -204,7 +204,7 @@ class Receivers(unittest.TestCase):
         )
         for universes in (range(1, 10), (1,)):
             found = verdicts(Ends, rules, universes=universes)
-            self.assertEqual({"cut datagrams": {"in the header"}}, broken(found))
+            self.assertEqual({"cut datagrams": {"in the header"}}, broken_cases(found))
             self.assertEqual({"broken", "kept"}, {each.verdict for each in found})
 
     def test_busy_machine(self):
@@ -218,9 +218,9 @@ class Receivers(unittest.TestCase):
         clock = SteppedClock()
         setting = Setting(lambda: InMemory(Slow, clock, range(1, 4)), clock)
         rules = tuple(rule for rule in RULES if rule.name == "START code")
-        found = tried(setting, True, rules)
+        found = try_all(setting, True, rules)
         self.assertEqual({3}, {each.tries for each in found if each.verdict == "not tried"})
-        self.assertEqual({}, broken(found))
+        self.assertEqual({}, broken_cases(found))
 
     def test_every_rule_has_a_case(self):
         names = [rule.name for rule in RULES]
@@ -236,30 +236,30 @@ class Sources(unittest.TestCase):
         last = datagrams[-1].moment
         return {each.rule: each for each in judged_source(listening_of(datagrams, 0.0, last + 3))}
 
-    def broken(self, datagrams):
+    def broken_rules(self, datagrams):
         return {name for name, each in self.judge(datagrams).items() if each.verdict == "broken"}
 
     def test_sound_ones(self):
-        for datagrams in (small_sources.heard(), small_sources.both()):
-            self.assertEqual(set(), self.broken(datagrams))
+        for datagrams in (small_sources.datagrams(), small_sources.both()):
+            self.assertEqual(set(), self.broken_rules(datagrams))
 
     def test_broken_ones(self):
         """Each breaks its rule and no other, and each rule that can be broken is."""
         for place, (rule, datagrams) in enumerate(small_sources.BREAKING):
             with self.subTest(rule, place=place):
-                self.assertEqual({rule}, self.broken(datagrams))
+                self.assertEqual({rule}, self.broken_rules(datagrams))
         able = {rule.name for rule in SOURCE_RULES if rule.faults}
         self.assertEqual(able, {rule for rule, _ in small_sources.BREAKING})
 
     def test_seen(self):
         """What is no matter of a rule is told."""
-        datagrams = small_sources.heard(priority=150)
+        datagrams = small_sources.datagrams(priority=150)
         datagrams = small_sources.at(datagrams, (2, 3), 125, b"\xdd")
         found = self.judge(datagrams)
         self.assertEqual("150", found["priorities sent"].says())
         self.assertIn("per-address priority", found["START codes"].says())
         self.assertEqual("seen", found["universe discovery"].verdict)
-        still = small_sources.heard()[:-3]
+        still = small_sources.datagrams()[:-3]
         ended = still[-1].moment + 0.1
         found = {each.rule: each for each in judged_source(listening_of(still, 0.0, ended))}
         self.assertEqual("not tried", found["termination"].verdict)
@@ -295,13 +295,13 @@ class Tool(FolderTest):
         began = time.monotonic()
         result = self.result("source", "cueplayer", "--seconds", 6)
         broken = [rule["rule"] for rule in result["rules"] if rule["verdict"] == "broken"]
-        stalled = witness().stalled(began, time.monotonic())
+        stalled = witness().stall(began, time.monotonic())
         if broken and stalled > STALLED:
             raise Late(f"broken: {broken}; the machine stood still for {stalled:.0f} ms")
         self.assertKept(result, "seen")
 
     @contextlib.contextmanager
-    def serving(self, kind, universes):
+    def serve(self, kind, universes):
         """A receiver of some universes on loopback, and the command that asks it."""
         receivers = {universe: kind(universe) for universe in universes}
         with socket.socket(socket.AF_INET, socket.SOCK_DGRAM) as listener:
@@ -335,7 +335,7 @@ class Tool(FolderTest):
 
     def test_command(self):
         """A receiver of the user's, over UDP and in real time."""
-        with self.serving(small_receivers.ShowsPreviews, range(1, 6)) as words:
+        with self.serve(small_receivers.ShowsPreviews, range(1, 6)) as words:
             time.sleep(0.2)
             chosen = ("--rule", "preview", "--rule", "numbering")
             result = self.result("receiver", *words, *chosen)
@@ -391,7 +391,7 @@ class Tool(FolderTest):
 class Others(unittest.TestCase):
     """A few rules, of the programs of other makers."""
 
-    def found(self, peer, *tools):
+    def verdicts(self, peer, *tools):
         missing = [each for each in tools if not shutil.which(each)]
         if missing:
             self.skipTest(f"not there: {', '.join(missing)}")
@@ -404,13 +404,14 @@ class Others(unittest.TestCase):
         return {rule["rule"]: rule["verdict"] for rule in json.loads(done.stdout)["rules"]}
 
     def test_open_lighting(self):
-        found = self.found("ola", "olad", "ola_dev_info", "ola_patch", "setpriv", "unshare", "ip")
+        tools = ("olad", "ola_dev_info", "ola_patch", "setpriv", "unshare", "ip")
+        found = self.verdicts("ola", *tools)
         self.assertEqual({"preview", "numbering", "CID"}, set(found))
         # On a busy machine a case may come late, and is not judged.
         self.assertNotIn("broken", found.values())
 
     def test_qlcplus(self):
-        found = self.found("qlcplus", "qlcplus", "unshare", "ip")
+        found = self.verdicts("qlcplus", "qlcplus", "unshare", "ip")
         self.assertEqual({"preview", "numbering", "CID"}, set(found))
         self.assertNotEqual("broken", found["CID"])
 

@@ -39,7 +39,7 @@ PATCH = "PATCH 1 1<1@FL 2<2@FL 3<3@FL"
 
 
 class ConvertTest(FolderTest):
-    def converted(self, *lines, **words):
+    def convert(self, *lines, **words):
         """The conversion of these lines, accepted by the program, and the show by the second
         reader."""
         content = lines[0] if isinstance(lines[0], bytes) else text(*lines)
@@ -58,7 +58,7 @@ class Styles(ConvertTest):
         """Each example is of its style, by its CONSOLE line."""
         for name, style in STYLES.items():
             with self.subTest(name):
-                found, _ = self.converted((EXPORTS / f"{name}.asc").read_bytes())
+                found, _ = self.convert((EXPORTS / f"{name}.asc").read_bytes())
                 self.assertEqual((style, "CONSOLE"), (found.style.name, found.told_by.first))
 
     def test_told_otherwise(self):
@@ -105,7 +105,7 @@ class Examples(ConvertTest):
 
     def looks(self, name):
         """The show of an example, and the levels of its cues by their numbers."""
-        _, show = self.converted((EXPORTS / f"{name}.asc").read_bytes())
+        _, show = self.convert((EXPORTS / f"{name}.asc").read_bytes())
         return show, {number / 1000: cue.levels for number, cue in show.cues.items()}
 
     def test_eos(self):
@@ -170,7 +170,7 @@ class Examples(ConvertTest):
     def test_slips(self):
         """What a show file passes in silence is told, and means what it means to the program."""
         content = (EXPORTS / "slips.asc").read_bytes()
-        found, show = self.converted(content)
+        found, show = self.convert(content)
         meant = shows.read(content)
         self.assertEqual((meant.cues, meant.patch), (show.cues, show.patch))
         told = "\n".join(found.report.lines())
@@ -188,7 +188,7 @@ class Encodings(ConvertTest):
     MEANT = {1: 255}
 
     def assertReads(self, content, label, *told):
-        found, show = self.converted(content)
+        found, show = self.convert(content)
         self.assertEqual(self.MEANT, show.cues[1000].levels)
         self.assertEqual(label, show.label("cues", 1000))
         self.assertEqual([f"changed: {each}" for each in told], found.report.lines())
@@ -220,7 +220,7 @@ class Encodings(ConvertTest):
         """Any bytes of a label stay; the program shows the same label of both."""
         label = bytes(byte for byte in range(1, 256) if byte not in b"\n!").strip(shows.EDGES)
         content = b"CUE 1\nTEXT " + label + b"\nCUE 2 ! wow! " + label + b"\n"
-        _, show = self.converted(content)
+        _, show = self.convert(content)
         self.assertEqual(label, show.label("cues", 1000))
         self.assertEqual(b"wow! " + label, show.label("cues", 2000))
 
@@ -231,14 +231,14 @@ class Rules(ConvertTest):
     def assertLines(self, lines, levels, *told):
         """Cue 1 has these levels, and this is told; line 1 opens it, line 2 and so on are
         given."""
-        found, show = self.converted("CUE 1", *lines)
+        found, show = self.convert("CUE 1", *lines)
         self.assertEqual(levels, show.cues[1000].levels)
         self.assertTold(found, *told)
 
     def test_levels(self):
         for word, byte in (("FULL", 255), ("50%", 128), ("33.3", 85), ("99.9%", 255), ("0.1", 0)):
             with self.subTest(word):
-                found, show = self.converted("CUE 1", f"CHAN 1@{word}")
+                found, show = self.convert("CUE 1", f"CHAN 1@{word}")
                 self.assertEqual({1: byte}, show.cues[1000].levels)
                 self.assertTrue(
                     found.report.lines()[0].startswith("respelled"), found.report.lines()
@@ -283,10 +283,10 @@ class Rules(ConvertTest):
         self.assertLines(["CHAN 1=FL 2/50", "CHAN 3 20", "CHAN 4,30,5,40"], levels)
         patches = {"PATCH 1<1 2<2": {2: (1, 5)}, "PATCH 1 1<2 3<4 5<6": {2: (1, 8), 5: (4, 15)}}
         for line, patch in patches.items():
-            found, show = self.converted(line)
+            found, show = self.convert(line)
             self.assertEqual(patch, show.patch)
             self.assertIn(f"line 1: in doubt: {line}: {told}", found.report.lines())
-        found, show = self.converted("PATCH 1 1<1@FL,2<2@FL", "PATCH 1 3 3 FL", "PATCH 1")
+        found, show = self.convert("PATCH 1 1<1@FL,2<2@FL", "PATCH 1 3 3 FL", "PATCH 1")
         self.assertTold(found)
 
     def test_continuation(self):
@@ -295,7 +295,7 @@ class Rules(ConvertTest):
         joined = "lines 3, 5: changed: joined to the CHAN line above"
         self.assertLines(["CHAN 1@FL", "2@50", "! comment", "3@H10 4@"], {1: 255, 2: 128, 3: 16},
                          "line 5: lost: CHAN 4@ cannot be read", joined)
-        found, show = self.converted("PATCH 1", "1<1@FL", " 2<2@50", "SUB 1", "1<3@FL")
+        found, show = self.convert("PATCH 1", "1<1@FL", " 2<2@50", "SUB 1", "1<3@FL")
         self.assertEqual({1: (1, 255), 2: (2, 128)}, show.patch)
         self.assertTold(
             found,
@@ -321,10 +321,10 @@ class Rules(ConvertTest):
             ),
         ):
             with self.subTest(line):
-                found, show = self.converted("CUE 1", line)
+                found, show = self.convert("CUE 1", line)
                 self.assertEqual(patch, show.patch)
                 self.assertTold(found, f"line 2: {told}")
-        found, show = self.converted("PATCH 1 1<1@FL", "PATCH 1 0<1@FL", "PATCH 1 1<2@FL")
+        found, show = self.convert("PATCH 1 1<1@FL", "PATCH 1 0<1@FL", "PATCH 1 1<2@FL")
         self.assertEqual({2: (1, 255)}, show.patch)
 
     def test_times(self):
@@ -346,7 +346,7 @@ class Rules(ConvertTest):
             ("UP 0,5", (0, 5000), [f"line 2: in doubt: UP 0,5 {COMMA}"]),
         ):
             with self.subTest(line):
-                found, show = self.converted("CUE 1", line)
+                found, show = self.convert("CUE 1", line)
                 self.assertEqual(rises, show.cues[1000].rises())
                 if told is not None:
                     self.assertTold(found, *told)
@@ -355,7 +355,7 @@ class Rules(ConvertTest):
 
     def test_numbers(self):
         """Of groups, submasters and channels out of range: free ones, each told; of cues none."""
-        found, show = self.converted(
+        found, show = self.convert(
             "GROUP 2", "CHAN 1@FL", "GROUP 501", "CHAN 2@FL", "GROUP 0", "CHAN 3@FL", "SUB 100",
             "CHAN 1@FL",
             "SUB 101", "CHAN 2@FL", "CUE 10000", "CHAN 1@FL", "CUE x", "CUE",
@@ -376,43 +376,43 @@ class Rules(ConvertTest):
         """They are mapped where they are patched or nothing is, and left out where no dimmer is
         theirs."""
         cue = ("CUE 1", "CHAN 3@FL 9001@50")
-        found, show = self.converted(*cue)
+        found, show = self.convert(*cue)
         self.assertEqual({3: 255, 4: 128}, show.cues[1000].levels)
         self.assertTold(found, "line 2: changed: channel 9001 to channel 4")
-        found, show = self.converted(*cue, PATCH)
+        found, show = self.convert(*cue, PATCH)
         self.assertEqual({3: 255}, show.cues[1000].levels)
         self.assertTold(found, "line 2: left out: channel 9001, to which no dimmer is patched")
-        found, show = self.converted(*cue, PATCH, "PATCH 1 9001<7@FL")
+        found, show = self.convert(*cue, PATCH, "PATCH 1 9001<7@FL")
         self.assertEqual({3: 255, 4: 128}, show.cues[1000].levels)
         self.assertEqual((4, 255), show.patch[7])
         self.assertTold(found, "lines 2, 4: changed: channel 9001 to channel 4")
 
     def test_no_free_number(self):
         subs = [line for n in range(1, 101) for line in (f"SUB {n}", "CHAN 1@FL")]
-        found, show = self.converted(*subs, "SUB 101", "CHAN 2@FL")
+        found, show = self.convert(*subs, "SUB 101", "CHAN 2@FL")
         self.assertEqual(100, len(show.subs))
         self.assertTold(found, "line 201: lost: submaster 101: no number is free")
 
     def test_parts(self):
         """Their times where they agree, and else those of the last lines, with what is lost."""
         agree = ("UP 5", "PART 1", "CHAN 1@FL", "PART 2", "UP 5.00", "CHAN 2@FL")
-        found, show = self.converted("CUE 1", *agree)
+        found, show = self.convert("CUE 1", *agree)
         self.assertEqual((5000, 0), show.cues[1000].rises())
         self.assertEqual({1: 255, 2: 255}, show.cues[1000].levels)
         self.assertFalse(found.report.has(LOST, CHANGED))
         other = ("PART 1", "UP 5", "CHAN 1@FL 2@FL", "PART 2", "UP 60 10", "CHAN 3@FL")
-        found, show = self.converted("CUE 1", *other)
+        found, show = self.convert("CUE 1", *other)
         self.assertEqual((60000, 10000), show.cues[1000].rises())
         told = "cue 1: UP 5 of part 1 (channels 1-2): all channels take UP 60 10"
         self.assertTold(found, f"lines 2-3: lost: {told}")
-        found, show = self.converted("CUE 1", "UP 5", "CHAN 1@FL", "PART 2", "UP 9")
+        found, show = self.convert("CUE 1", "UP 5", "CHAN 1@FL", "PART 2", "UP 9")
         self.assertEqual((5000, 0), show.cues[1000].rises())
         self.assertTold(
             found, "line 1: changed: cue 1: the times of parts without channels are left out"
         )
 
     def test_links(self):
-        found, _ = self.converted(
+        found, _ = self.convert(
             "CUE 1", "LINK 2", "CUE 2", "LINK 1", "CUE 3", "LINK 1", "CUE 2", "LINK x"
         )
         self.assertTold(
@@ -429,27 +429,27 @@ class Rules(ConvertTest):
     def test_pages(self):
         """Page 1, or the only one; or the list that is asked for."""
         lines = ("CUE 1 1", "CHAN 1@10", "CUE 1 2", "CHAN 1@20", "CUE 2 2", "CHAN 1@30")
-        found, show = self.converted(*lines)
+        found, show = self.convert(*lines)
         self.assertEqual({1000: {1: 26}}, {n: cue.levels for n, cue in show.cues.items()})
         self.assertTold(found, "lines 3-6: lost: cues of page 2")
-        found, show = self.converted(*lines, cue_list=2)
+        found, show = self.convert(*lines, cue_list=2)
         self.assertEqual(
             {1000: {1: 51}, 2000: {1: 77}}, {n: cue.levels for n, cue in show.cues.items()}
         )
-        found, show = self.converted(*lines[2:])
+        found, show = self.convert(*lines[2:])
         self.assertEqual([1000, 2000], sorted(show.cues))
         self.assertTold(found, "lines 1, 3: changed: page 2 of CUE to page 1")
 
     def test_tracking(self):
         lines = ("CUE 1", "CHAN 1@50 2@FL", "CUE 3", "CHAN 2@0", "CUE 2", "CHAN 3@10")
-        _, show = self.converted(*lines, is_tracking=True)
+        _, show = self.convert(*lines, is_tracking=True)
         levels = [show.cues[n].levels for n in (1000, 2000, 3000)]
         self.assertEqual(
             [{1: 128, 2: 255}, {1: 128, 2: 255, 3: 26}, {1: 128, 2: 0, 3: 26}], levels
         )
 
     def test_names(self):
-        found, show = self.converted('CUE 4 "Bahnhof; 2"', 'CUE 5 1 "x"', "CUE 6 y z")
+        found, show = self.convert('CUE 4 "Bahnhof; 2"', 'CUE 5 1 "x"', "CUE 6 y z")
         labels = [show.label("cues", n) for n in (4000, 5000, 6000)]
         self.assertEqual([b"Bahnhof; 2", b"x", b""], labels)
         self.assertIn("line 3: lost: words after CUE 6: y z", found.report.lines())
@@ -457,7 +457,7 @@ class Rules(ConvertTest):
     def test_makers_records(self):
         """They are left out, with all that stands in them; those of cues and the patch are
         lost."""
-        found, show = self.converted(
+        found, show = self.convert(
             "$Effect 1", "CHAN 1@FL", "$$Step 1", "$Patch 1 1", "$$Note x", "Text y", "CUE 1",
             "$$Time 3",
         )  # fmt: skip
@@ -470,7 +470,7 @@ class Rules(ConvertTest):
         )
 
     def test_clear(self):
-        found, show = self.converted(
+        found, show = self.convert(
             "CUE 1", "CLEAR CUE 1", "SUB 1", "CHAN 1@FL", "CLEAR CUES", "CUE 2"
         )
         self.assertEqual([2000], sorted(show.cues))
@@ -483,7 +483,7 @@ class Rules(ConvertTest):
 
     def test_other_lines(self):
         lines = ("CHAN 1@FL", "IDENT 2:0", "MACRO 7", "CUE 1", "UPP 5", "ENDDATA", "", "CUE 2")
-        found, _ = self.converted(*lines)
+        found, _ = self.convert(*lines)
         self.assertTold(
             found,
             "line 1: lost: CHAN lines that belong to no record",
@@ -556,7 +556,7 @@ class Words(ConvertTest):
         refused = "not compared: the program refuses the file as it stands: show line 3: BadTime"
         self.assertEqual(refused, told[-1])
 
-    def compared(self, *lines, words=()):
+    def comparison_lines(self, *lines, words=()):
         done = run_tool("convert", self.file("given", text(*lines)), *words)
         self.assertEqual(0, done.returncode)
         return [line for line in done.stderr.splitlines() if "compared" in line]
@@ -577,19 +577,19 @@ class Words(ConvertTest):
         same = "compared: 3 cues, with the slots and times of the file as it stands"
         universes = "PATCH 1 " + " ".join(f"1<{512 * n + 1}@FL" for n in range(16))
         for more in ((PATCH,), (), (universes,)):
-            self.assertEqual([same], self.compared(*show, *more))
+            self.assertEqual([same], self.comparison_lines(*show, *more))
         other = "than the program makes of the file as it stands"
-        found = self.compared(*show, "PATCH 1", "1<1@FL 2<2@FL")
+        found = self.comparison_lines(*show, "PATCH 1", "1<1@FL 2<2@FL")
         self.assertEqual([f"compared: other slots {other}: cues 1, 2"], found)
-        found = self.compared("CUE 1", "UP 5", "CHAN 1@FL", "PART 2", "UP 9")
+        found = self.comparison_lines("CUE 1", "UP 5", "CHAN 1@FL", "PART 2", "UP 9")
         self.assertEqual([f"compared: other times {other}: cue 1"], found)
         one = same.replace("3 cues", "1 cue")
-        found = self.compared("\xef\xbb\xbfCUE 1", "CUE 2")
+        found = self.comparison_lines("\xef\xbb\xbfCUE 1", "CUE 2")
         self.assertEqual(["compared: only in the converted show: cue 1", one], found)
-        found = self.compared("CUE 1", "CUE 2", "CUE 2 3", words=["--list", "3"])
+        found = self.comparison_lines("CUE 1", "CUE 2", "CUE 2 3", words=["--list", "3"])
         self.assertEqual(["compared: only in the file as it stands: cue 1", one], found)
         none = "not compared: the program finds no cue in the file as it stands"
-        self.assertEqual([none], self.compared("CUE 1 2"))
+        self.assertEqual([none], self.comparison_lines("CUE 1 2"))
 
     def test_refused(self):
         """What is no export, or no show could hold: nothing is written, and why is told."""
@@ -641,7 +641,7 @@ class Words(ConvertTest):
 
     def test_long_report_is_cut(self):
         """Of a file of noise no end is told."""
-        found, _ = self.converted("CUE 1", *(f"CHAN 1@FL x{n}@5" for n in range(1500)))
+        found, _ = self.convert("CUE 1", *(f"CHAN 1@FL x{n}@5" for n in range(1500)))
         lines = found.report.lines()
         self.assertEqual((1001, "lost: 500 more of this kind"), (len(lines), lines[-1]))
 
@@ -723,7 +723,7 @@ class Hostile(ConvertTest):
             lines = base.split(b"\n")
             for _ in range(r.choice((0, 0, 1, 2, 5))):
                 lines.insert(r.randrange(len(lines)), r.choice(ODD))
-            yield changes.changed(
+            yield changes.with_changes(
                 r, b"\n".join(lines), changes.OF_TEXTS, r.choice((0, 1, 2, 8, 20))
             )
 
@@ -746,7 +746,7 @@ class Hostile(ConvertTest):
         changed, and is converted to itself. Whether it was so compared, None where nothing was
         written."""
         try:
-            found, show = self.converted(content)
+            found, show = self.convert(content)
         except Refused:
             return None
         again = convert(found.show)

@@ -8,7 +8,7 @@ import unittest
 import inputs
 from expected import live, show as shows
 from machine import in_time, took
-from nights import Typed, expected, play_nights
+from nights import Typed, expected_lines, play_nights
 from program import text
 from test_live import LiveTest
 from worked import S1
@@ -28,7 +28,7 @@ def typed_lines(r):
     while True:
         words = inputs.command(r)
         if words != ["end"]:
-            yield inputs.spelled(r, words, odd=0.01).encode("latin-1") + b"\n"
+            yield inputs.spelling(r, words, odd=0.01).encode("latin-1") + b"\n"
 
 
 def typed_night(r):
@@ -49,7 +49,7 @@ class Reader(unittest.TestCase):
 
     def assertShows(self, show, record, *expected):
         lines = [line.encode() for line in record]
-        self.assertEqual(list(expected), live.shown(shows.read(show), lines))
+        self.assertEqual(list(expected), live.shown_lines(shows.read(show), lines))
 
     def test_move_at_a_tick(self):
         self.assertShows(self.FOLLOWED, ["0 go", "11000 tick"], "0 ok", "0 cue 1", "10000 cue 2")
@@ -101,7 +101,7 @@ class CueLines(unittest.TestCase):
         for typed, left in play_nights([typed_night(r) for _ in range(NIGHTS)]):
             with self.subTest(typed):
                 self.assertEqual(0, left.status, left.err)
-                self.assertEqual(expected(typed.show, left.record, left.shown), left.shown)
+                self.assertEqual(expected_lines(typed.show, left.record, left.shown), left.shown)
             moves += sum(MOVED.fullmatch(line) is not None for line in left.shown)
             orders += sum(ORDER.search(line) is not None for line in left.record)
         print(f"    {moves} moves, by {orders} commands at most, in {NIGHTS} nights")
@@ -113,7 +113,7 @@ class CueLinesAsTheyCome(LiveTest):
 
     def test_follow_on(self):
         """Its line comes at the tick that makes the move, with the moment at which it was due."""
-        night = self.begun()
+        night = self.begin_night()
         night.stdin.write(b"go\n")
         at = int(night.stdout.readline().removesuffix(b" ok\n"))
         self.assertEqual(b"%d cue 1\n" % at, night.stdout.readline())
@@ -122,7 +122,7 @@ class CueLinesAsTheyCome(LiveTest):
         again = int(night.stdout.readline().removesuffix(b" ok\n"))
         self.assertGreaterEqual(again, at + 500)
         self.assertEqual(b"%d cue 4.5\n" % again, night.stdout.readline())
-        self.assertEqual(0, self.ended(night).status)
+        self.assertEqual(0, self.end_night(night).status)
 
     def test_chain(self):
         """Cues that follow one another at once: each has its line, soon, and no tick waits for
@@ -130,7 +130,7 @@ class CueLinesAsTheyCome(LiveTest):
         cues = range(1, CHAIN + 1)
         self.show.write_bytes(text(*(f"CUE {n}\nFOLLOWON 0" for n in cues)))
         record = self.folder / "night.play"
-        night = self.begun("--record", record)
+        night = self.begin_night("--record", record)
         typed = time.monotonic()
         night.stdin.write(b"go\n")
         at = int(night.stdout.readline().removesuffix(b" ok\n"))
@@ -139,7 +139,7 @@ class CueLinesAsTheyCome(LiveTest):
                 [b"%d cue %d\n" % (at, n) for n in cues], [shown.readline() for _ in cues]
             )
         in_time(took(typed), LATE, "a chain of moves")
-        self.assertEqual(0, self.ended(night).status)
+        self.assertEqual(0, self.end_night(night).status)
         ticks = [
             int(line.split()[0]) for line in record.read_bytes().splitlines() if b" tick" in line
         ]

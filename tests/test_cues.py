@@ -11,7 +11,7 @@ from worked import table, with_examples
 HEAD = "     cue       up    delay     down    delay   follow  channels  label"
 
 
-def printed(show):
+def cue_json(show):
     """The JSON of a show, read."""
     outcome = run("cues", "--json", "-", stdin=show)
     assert (outcome.status, outcome.err) == (0, b""), outcome
@@ -24,7 +24,7 @@ class Cues(ProgramTest):
         """Both forms say what the second reader makes of the show."""
         meant = shows.read(show)
         self.assertRuns(["cues", "-"], show, out=cue_list.table(meant).encode())
-        self.assertEqual(cue_list.data(meant), printed(show))
+        self.assertEqual(cue_list.data(meant), cue_json(show))
 
     def test_a_show(self):
         """Rows by hand."""
@@ -51,7 +51,7 @@ class Cues(ProgramTest):
             "        2         1",
         )
         self.assertRuns(["cues", "-"], show, out=table)
-        data = printed(show)
+        data = cue_json(show)
         dawn = {
             "number": "0.25", "label": "dawn, slowly", "up": 2.5, "up_delay": 0.05, "down": 2.5,
             "down_delay": 0.05, "follow": 0, "channels": 0,
@@ -91,14 +91,14 @@ class Cues(ProgramTest):
             label = row.cells["label"]
             for show in row.texts("show"):
                 with self.subTest(show):
-                    self.assertEqual([label], [cue["label"] for cue in printed(show)["cues"][:1]])
+                    self.assertEqual([label], [cue["label"] for cue in cue_json(show)["cues"][:1]])
                     self.assertLists(show)
 
     def test_labels_of_any_bytes(self):
         """They are whole in JSON, each byte a character."""
         for label in ("\xe9\xff\x00\x7f\t.", "x" * 9000):
             show = text("CUE 1 ! " + label)
-            self.assertEqual(label, printed(show)["cues"][0]["label"])
+            self.assertEqual(label, cue_json(show)["cues"][0]["label"])
             self.assertLists(show)
 
     def test_label_in_the_table(self):
@@ -116,7 +116,7 @@ class Cues(ProgramTest):
                 self.assertLists(show)
                 counted = run("check", file).out.split()
                 counts = dict(zip(counted[::2], map(int, counted[1::2])))
-                data = printed(show)
+                data = cue_json(show)
                 for name, member in ("cues", "cues"), ("subs", "submasters"), ("groups", "groups"):
                     self.assertEqual(counts[b"%b" % name.encode()], len(data[member]))
                 self.assertEqual(counts[b"dimmers"], len(data["patch"]))
@@ -129,7 +129,7 @@ class Cues(ProgramTest):
             lines += [f"CUE {n} ! comment {n}", f"TEXT cue {n}", "UP 2.5", f"CHAN {n}@FL"]
         show = text(*lines)
         started = time.monotonic()
-        data = printed(show)
+        data = cue_json(show)
         self.assertLess(time.monotonic() - started, 1)
         self.assertEqual(
             [f"cue {n}" for n in range(1, 2001)], [cue["label"] for cue in data["cues"]]

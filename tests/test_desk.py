@@ -32,14 +32,14 @@ from cueplayer_tools.teller import Teller
 
 class Playback(DeskTest):
     def test_go_moves_light(self):
-        _, page = self.opened()
+        _, page = self.open_desk()
         self.assertEqual(204, page.command("go"))
         page.wait(current="1", next="1.5", waiting=0)
         self.wait_for_level(128)
 
     def test_state(self):
         """All of it comes from what `live` answers, in its own words."""
-        _, page = self.opened()
+        _, page = self.open_desk()
         kinds = ("number", "name", "up", "down")
         cues = [tuple(cue[kind] for kind in kinds) for cue in page.newest["show"]["cues"]]
         cut, up, down = ({"time": time, "delay": delay} for time, delay in
@@ -70,7 +70,7 @@ class Playback(DeskTest):
 
     def test_refused(self):
         """What `live` refuses is told to all pages, until a move is accepted."""
-        _, page = self.opened()
+        _, page = self.open_desk()
         for line in ("back", "goto 7", "sub 9 FL"):
             self.assertEqual(204, page.command(line))
         told = ["back: refused, AtStart", "goto 7: refused, NoCue", "sub 9 HFF: refused, NoSub"]
@@ -81,7 +81,7 @@ class Playback(DeskTest):
 
     def test_no_command(self):
         """What is no command never comes to `live`, and is told."""
-        _, page = self.opened()
+        _, page = self.open_desk()
         for line in ("jump", "tick", "go\ngo", "5 go", "goto 0", "sub 1 101", "", "go ! \xe9"):
             self.assertEqual(409, page.command(line), line)
         page.command("go")
@@ -93,7 +93,7 @@ class Playback(DeskTest):
 
     def test_two_pages(self):
         """Two pages show the same, and one that is opened again shows it at once."""
-        _, address = self.begun()
+        _, address = self.begin()
         one, two = Page(self, address), Page(self, address)
         one.wait(placed=True)
         one.command("go")
@@ -107,7 +107,7 @@ class Playback(DeskTest):
 
     def test_page_that_never_reads(self):
         """It delays neither the light nor other pages."""
-        _, address = self.begun()
+        _, address = self.begin()
         page = Page(self, address)
         host, port = page.host.split(":")
         with socket.create_connection((host, int(port))) as lazy:
@@ -120,7 +120,7 @@ class Playback(DeskTest):
             page.wait(current="1")
 
     def test_lost_packets(self):
-        _, page = self.opened(to="255.255.255.255:9")
+        _, page = self.open_desk(to="255.255.255.255:9")
         wait_for(lambda: page.state.get("lost", {}).get("count", 0) > 2, "lost packets")
         self.assertEqual(1, page.state["lost"]["universe"])
         page.command("go")
@@ -130,7 +130,7 @@ class Playback(DeskTest):
         """A cue that follows by itself is current when its time is over, and not before."""
         lines = ("CUE 1", "FOLLOWON 3", "CUE 2", "UP 3", "CHAN 1@FL", "PATCH 1 1<1@FL")
         self.show.write_bytes(text(*lines))
-        _, page = self.opened()
+        _, page = self.open_desk()
         pressed = time.monotonic()
         page.command("go")
         follow = page.wait(current="1", next="2")["follow"]
@@ -147,7 +147,7 @@ class Playback(DeskTest):
 
     def test_lines_of_another(self):
         """What somebody else hands to the same `live` is shown, as if it had been pressed here."""
-        desk, page = self.opened()
+        desk, page = self.open_desk()
         page.command("sub 1 10")
         page.wait(masters={"sub 1": 26})
         with open(f"/proc/{desk.live}/fd/0", "wb", buffering=0) as other:
@@ -160,7 +160,7 @@ class Playback(DeskTest):
 class Ends(DeskTest):
     def test_end(self):
         """`end` tells receivers, and the page says that the night has ended."""
-        desk, page = self.opened()
+        desk, page = self.open_desk()
         page.command("end")
         page.wait(ending=True, status=0)
         ends = [bool(each[OPTIONS] & TERMINATED) for each in self.came()]
@@ -174,7 +174,7 @@ class Ends(DeskTest):
 
     def test_live_that_dies(self):
         """The page says so at once."""
-        desk, page = self.opened()
+        desk, page = self.open_desk()
         os.kill(desk.live, signal.SIGKILL)
         before = time.monotonic()
         page.wait(status=-signal.SIGKILL)
@@ -182,7 +182,7 @@ class Ends(DeskTest):
 
     def test_control_c(self):
         """At the first the night goes on; the second ends it, and tells receivers."""
-        desk, page = self.opened()
+        desk, page = self.open_desk()
         desk.process.send_signal(signal.SIGINT)
         desk.err.find("desk: the night goes on")
         page.command("go")
@@ -200,7 +200,7 @@ class Ends(DeskTest):
 
     def test_presses_while_it_ends(self):
         """However often control-C is pressed, the desk leaves with the status of the night."""
-        desk, _ = self.opened()
+        desk, _ = self.open_desk()
         until = time.monotonic() + PATIENCE
         while desk.process.poll() is None and time.monotonic() < until:
             desk.process.send_signal(signal.SIGINT)
@@ -209,14 +209,14 @@ class Ends(DeskTest):
         self.assertTrue(self.came()[-1][OPTIONS] & TERMINATED)
 
     def test_terminated(self):
-        desk, _ = self.opened()
+        desk, _ = self.open_desk()
         desk.process.terminate()
         self.assertEqual(0, desk.process.wait(PATIENCE))
         self.assertTrue(self.came()[-1][OPTIONS] & TERMINATED)
 
     def test_desk_that_dies(self):
         """The light stays as it is, and nobody sends beside it under its name."""
-        desk, page = self.opened()
+        desk, page = self.open_desk()
         page.command("sub 1 50")
         self.wait_for_level(128)
         live = desk.live
@@ -224,14 +224,14 @@ class Ends(DeskTest):
         desk.process.wait()
         time.sleep(0.3)
         self.came()
-        self.assertEqual({128}, wait_for(self.shown, "light"))
+        self.assertEqual({128}, wait_for(self.shown_levels, "light"))
         again = run_tool("desk", self.show, "--to", self.to, "--cid", self.cid.upper())
         told = f"desk: process {live} plays live under this CID already: `kill {live}` ends it\n"
         self.assertEqual((1, told), (again.returncode, again.stderr))
 
     def test_before_the_night(self):
         """What cannot begin is told, with the status of `live` where it has one."""
-        def told(*words):
+        def run_desk(*words):
             done = run_tool("desk", *words)
             return done.returncode, re.sub("desk: console .*\n", "", done.stderr)
 
@@ -239,25 +239,26 @@ class Ends(DeskTest):
         over = "desk: live has ended with status 2\n"
         remark = "desk: live: --priority `201`: a priority is a number from 0 to 200\n"
         self.assertEqual((2, "desk: live: words refused\n" + remark + over),
-                         told(self.show, *usual, "--priority", 201))
-        self.assertEqual((1, "desk: not an IPv4 address: 'x'\n"), told(self.show, "--to", "x"))
+                         run_desk(self.show, *usual, "--priority", 201))
+        self.assertEqual((1, "desk: not an IPv4 address: 'x'\n"), run_desk(self.show, "--to", "x"))
         with socket.create_server(("127.0.0.1", 0)) as taken:
             port = taken.getsockname()[1]
             self.assertEqual((1, "desk: cannot start: Address already in use\n"),
-                             told(self.show, *usual, "--port", port))
+                             run_desk(self.show, *usual, "--port", port))
         self.show.write_bytes(text("PATCH 1 1<513@FL"))
         remark = "desk: live: the base, and the show's universes after it, are 1 to 63999\n"
         self.assertEqual((2, "desk: live: base: Universe\n" + remark + over),
-                         told(self.show, *usual, "--base", 63999))
+                         run_desk(self.show, *usual, "--base", 63999))
         self.show.write_bytes(text("CUE x"))
         remark = "`CUE x`: a number is 1 to 9 digits; a cue's is 0.001 to 9999.999, as 2.5\n"
-        self.assertEqual((1, "desk: show line 1: BadNumber\n" + remark), told(self.show, *usual))
-        self.assertEqual(set(), self.shown())
+        told = "desk: show line 1: BadNumber\n" + remark
+        self.assertEqual((1, told), run_desk(self.show, *usual))
+        self.assertEqual(set(), self.shown_levels())
 
     def test_record(self):
         """The record is that of `live`, and so is what is kept of its replies."""
         record, replies = self.folder / "night.play", self.folder / "night.replies"
-        desk, page = self.opened("--record", record, "--replies", replies)
+        desk, page = self.open_desk("--record", record, "--replies", replies)
         page.command("back")
         wait_for(page.notices, "the refusal")
         page.command("go")
@@ -278,7 +279,7 @@ class Ends(DeskTest):
 class Beside(DeskTest):
     def test_osc(self):
         """Open Sound Control goes to the same night; what is refused of it is told by the page."""
-        _, page = self.opened("--osc", 0)
+        _, page = self.open_desk("--osc", 0)
         host, port = page.newest["show"]["osc"].split(":")
         with socket.socket(socket.AF_INET, socket.SOCK_DGRAM) as sender:
             sender.connect((host, int(port)))
@@ -296,7 +297,7 @@ class Beside(DeskTest):
         """Where nobody else receives at the address the grid does, and it shows what a receiver
         shows: the source of the greatest priority, as long as it is heard."""
         to = f"127.0.0.1:{free_port()}"
-        _, page = self.opened("--grid", to=to)
+        _, page = self.open_desk("--grid", to=to)
         page.command("sub 1 50")
         own, other = ((bytes([level]) + bytes(511)).hex() for level in (128, 7))
         slots = lambda: page.newest.get("levels", {}).get("slots")
@@ -315,7 +316,7 @@ class Beside(DeskTest):
         """Each is named as long as it is heard; where more come than a receiver has room for, that
         is said."""
         to = f"127.0.0.1:{free_port()}"
-        _, page = self.opened("--grid", to=to)
+        _, page = self.open_desk("--grid", to=to)
         host, port = to.split(":")
         with socket.socket(socket.AF_INET, socket.SOCK_DGRAM) as other:
             other.connect((host, int(port)))
@@ -343,7 +344,7 @@ class Beside(DeskTest):
     def test_watch_that_ends(self):
         """The page says that the levels are not received; the light goes on."""
         to = f"127.0.0.1:{free_port()}"
-        desk, page = self.opened("--grid", to=to)
+        desk, page = self.open_desk("--grid", to=to)
         wait_for(lambda: page.newest.get("levels", {}).get("slots"), "levels")
         killed = [Path(f"/proc/{pid}/cmdline") for pid in children(desk.process.pid)]
         for words in killed:
@@ -356,7 +357,7 @@ class Beside(DeskTest):
 
     def test_osc_that_cannot_be_read(self):
         """Nothing that a datagram holds ends the taking of others."""
-        _, page = self.opened("--osc", 0)
+        _, page = self.open_desk("--osc", 0)
         host, port = page.newest["show"]["osc"].split(":")
         with socket.socket(socket.AF_INET, socket.SOCK_DGRAM) as sender:
             sender.connect((host, int(port)))
@@ -370,7 +371,7 @@ class Beside(DeskTest):
         """Nothing is taken from the receiver that the light is for."""
         for options, reason in (((), "they are sent to one receiver alone"),
                                 (("--grid",), "Address already in use")):
-            _, page = self.opened(*options)
+            _, page = self.open_desk(*options)
             wait_for(lambda: page.newest.get("levels"), "levels")
             self.assertEqual(
                 {"reasons": {"1": reason}, "slots": {}, "others": []}, page.newest["levels"]
@@ -455,7 +456,7 @@ class Replies(DeskTest):
         wait_for(lambda: night.state.is_placed, "the state")
         return night
 
-    def typing(self, night):
+    def second_input(self, night):
         """What somebody else types into the same `live`."""
         return open(f"/proc/{night.process.pid}/fd/0", "wb", buffering=0)
 
@@ -468,7 +469,7 @@ class Replies(DeskTest):
         place = read_live_line(line)
         return place.cue, place.following, place.grand, place.masters
 
-    def kept(self, night):
+    def answers_of(self, night):
         """The answers of `live` from here on: those to commands, and those to `where`, each behind
         what the desk had before it came."""
         answers, places = [], []
@@ -492,8 +493,8 @@ class Replies(DeskTest):
         """Of whatever is pressed at the desk it has, at every `where`, just what that answers."""
         self.show.write_bytes(SHOW.replace(b"UP 2 1\n", b"UP 2 1\nFOLLOWON 0.03\n"))
         night, chance = self.night(), random.Random(40)
-        _, places = self.kept(night)
-        with self.typing(night) as other:
+        _, places = self.answers_of(night)
+        with self.second_input(night) as other:
             for _ in range(400):
                 night.give(self.line(chance))
                 if chance.randrange(3) == 0:
@@ -508,14 +509,14 @@ class Replies(DeskTest):
     def test_others_by_chance(self):
         """Whoever else types meanwhile, it has what `where` answers once all lines are answered."""
         night, chance, lines = self.night(), random.Random(41), 0
-        answers, places = self.kept(night)
+        answers, places = self.answers_of(night)
 
         def is_settled():
             with night.changed:
                 is_known = not night.input.waiting and not night.is_to_ask
                 return is_known and len(answers) == lines
 
-        with self.typing(night) as other:
+        with self.second_input(night) as other:
             for turn in range(50):
                 for _ in range(chance.randrange(12)):
                     lines += 1
@@ -534,7 +535,7 @@ class Replies(DeskTest):
         """A desk that stood still until answers were dropped shows the right state again."""
         with mock.patch.object(desk_night, "PIPE_ROOM", 4096):
             night = self.night()
-        with night.changed, self.typing(night) as other:
+        with night.changed, self.second_input(night) as other:
             for number in range(20_000):
                 other.write(f"sub 1 H{number % 256:02X}\n".encode())
             other.write(b"goto 1.5 in 0\ngroup 3 50\nmaster H40\n")

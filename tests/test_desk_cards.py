@@ -22,12 +22,12 @@ ALONE = "they are sent to one receiver alone"
 def wait_for_level(page, level):
     """Waits until a page shows this level of the first slot, where the program has `watch`."""
 
-    def shown():
+    def shown_level():
         slots = page.newest.get("levels", {}).get("slots", {})
         return int(slots.get("1", "00")[:2], 16)
 
     if watches():
-        wait_for(lambda: shown() == level, "the level")
+        wait_for(lambda: shown_level() == level, "the level")
 
 
 def send(node):
@@ -41,7 +41,7 @@ def send(node):
 class DeskCardsTest(NetworkTest, FolderTest):
     SHOW = SHOW
 
-    def begun(self, kept, venue, *words):
+    def begin_desk(self, kept, venue, *words):
         """A desk on the console's machine: its lines on both outputs."""
         desk = subprocess.Popen(
             venue.console.words(sys.executable, TOOLS / "desk", *words),
@@ -53,9 +53,9 @@ class DeskCardsTest(NetworkTest, FolderTest):
         kept.callback(desk.terminate)
         return Lines(desk.stdout), Lines(desk.stderr)
 
-    def opened(self, kept, venue, *words):
+    def open_desk(self, kept, venue, *words):
         """The open page of a desk there, and what the desk tells."""
-        out, told = self.begun(kept, venue, *words)
+        out, told = self.begin_desk(kept, venue, *words)
         address = out.next().removeprefix("desk: ")
         page = venue.console.within(lambda: Page(self, address))
         page.wait(placed=True)
@@ -80,8 +80,8 @@ class DeskCards(DeskCardsTest):
             self.tablet_with_faders,
         )
 
-    def opened(self, kept, venue, *words, show=None):
-        return super().opened(kept, venue, show or self.show, "--cid", uuid.uuid4(), *words)
+    def open_desk(self, kept, venue, *words, show=None):
+        return super().open_desk(kept, venue, show or self.show, "--cid", uuid.uuid4(), *words)
 
     def command(self, venue, page, line):
         self.assertEqual(204, venue.console.within(lambda: page.command(line)))
@@ -90,7 +90,7 @@ class DeskCards(DeskCardsTest):
         """The night is sent by the card that is named, and what is sent there is heard."""
         venue = Venue(kept)
         source = ("--name", "the desk", "--ttl", "3")
-        page, _ = self.opened(kept, venue, "--to", MULTICAST, "--interface", "lit", *source)
+        page, _ = self.open_desk(kept, venue, "--to", MULTICAST, "--interface", "lit", *source)
         page.wait(ways=[f"from {LIT} (lit)"], troubles=[], notices=[])
         self.command(venue, page, "sub 1 50")
         wait_for_level(page, 128)
@@ -99,18 +99,18 @@ class DeskCards(DeskCardsTest):
         self.assertEqual((LIT, 3, b"the desk"), (came.source, came.ttl, name))
         self.assertEqual([], venue.office.came(0))
 
-        def heard():
+        def other_sources():
             for node in (venue.office, venue.stage):
                 node.within(lambda: send(node))
             return page.newest["levels"]["others"]
 
         told = [f"at {STAGE}, priority 100, universe 1"]
         if watches():
-            self.assertEqual(told, wait_for(heard, "the source"))
+            self.assertEqual(told, wait_for(other_sources, "the source"))
 
     def default_route(self, kept):
         """Where no card is named it is said by which one it sends, and which could be meant."""
-        page, _ = self.opened(kept, Venue(kept), "--to", MULTICAST)
+        page, _ = self.open_desk(kept, Venue(kept), "--to", MULTICAST)
         page.wait(ways=["from 10.101.1.10 (eth0), the default route"])
         told = f"other cards: lit ({LIT}); --interface lit sends by it"
         wait_for(lambda: page.notices() == [told], "the other card")
@@ -118,7 +118,7 @@ class DeskCards(DeskCardsTest):
     def cable(self, kept):
         """A cable that is out is shown until it is in again, also to a page that is opened then."""
         venue = Venue(kept)
-        page, told = self.opened(kept, venue, "--to", MULTICAST, "--interface", LIT)
+        page, told = self.open_desk(kept, venue, "--to", MULTICAST, "--interface", LIT)
         venue.stage.ip("link set port down")
         shown = self.assertShows(page, NO_LINK)
         self.command(venue, page, "go")
@@ -135,7 +135,7 @@ class DeskCards(DeskCardsTest):
         venue, show = Venue(kept), self.file("wide.asc", SHOW + b"PATCH 1 1<513@FL\n")
         named = (f"2={STAGE}", f"2={OFFICE}", f"1={MULTICAST}")
         words = [*(f"--to={word}" for word in named), "--interface", "lit", "--any-route"]
-        page, _ = self.opened(kept, venue, *words, show=show)
+        page, _ = self.open_desk(kept, venue, *words, show=show)
         self.command(venue, page, "sub 1 50")
         wait_for_level(page, 128)
         if watches():
@@ -147,7 +147,7 @@ class DeskCards(DeskCardsTest):
         """Another machine plays by the PIN, and by nothing else; both show the same."""
         venue = Venue(kept)
         words = (self.show, "--cid", uuid.uuid4(), "--to", MULTICAST, "--interface", "lit")
-        out, told = self.begun(kept, venue, *words, "--listen", f"{LIT}:8090")
+        out, told = self.begin_desk(kept, venue, *words, "--listen", f"{LIT}:8090")
         here = out.next().removeprefix("desk: ")
         door = Door(out.next())
         self.assertEqual(f"http://{LIT}:8090", door.origin)
@@ -172,7 +172,7 @@ class DeskCards(DeskCardsTest):
         """Open Sound Control comes from another machine, where an address is named."""
         venue = Venue(kept)
         words = ("--to", MULTICAST, "--interface", "lit", "--osc", f"{LIT}:8000")
-        page, _ = self.opened(kept, venue, *words)
+        page, _ = self.open_desk(kept, venue, *words)
         self.assertEqual(f"{LIT}:8000", page.newest["show"]["osc"])
 
         def send():
@@ -185,7 +185,7 @@ class DeskCards(DeskCardsTest):
     def no_such_card(self, kept):
         """What `live` refuses of a card is told, and nothing begins."""
         words = (self.show, "--cid", uuid.uuid4(), "--to", MULTICAST, "--interface", "eth7")
-        _, told = self.begun(kept, Venue(kept), *words)
+        _, told = self.begin_desk(kept, Venue(kept), *words)
         told.find("desk: live: no card eth7: there are eth0 ")
         told.find("desk: live has ended with status 2")
 
@@ -200,37 +200,38 @@ class NightCards(DeskCardsTest):
         """A network, and what runs the script over a night there."""
         venue = Venue(kept)
 
-        def asked(*words):
+        def run_script(*words):
             words = venue.console.words(NIGHT, self.folder / name, *words)
             return subprocess.run(words, capture_output=True, text=True, timeout=2 * PATIENCE)
 
-        kept.callback(asked, "halt")
-        return venue, asked
+        kept.callback(run_script, "halt")
+        return venue, run_script
 
     def cable(self, kept):
         """A desk that comes later shows the cable that is out, and so does `status`."""
-        venue, asked = self.night(kept, "tonight")
+        venue, run_script = self.night(kept, "tonight")
         words = ("--to", MULTICAST, "--interface", "lit", "--cid", uuid.uuid4())
-        begun = asked("start", self.show, *words, "--background")
+        begun = run_script("start", self.show, *words, "--background")
         self.assertIn(f"\nfrom {LIT} (lit)\n", begun.stdout)
         venue.stage.wait()
         venue.stage.ip("link set port down")
-        wait_for(lambda: NO_LINK in asked("status").stdout, "the cable")
-        page, _ = self.opened(kept, venue, "--night", self.folder / "tonight")
+        wait_for(lambda: NO_LINK in run_script("status").stdout, "the cable")
+        page, _ = self.open_desk(kept, venue, "--night", self.folder / "tonight")
         self.assertShows(page, NO_LINK)
         venue.stage.ip("link set port up")
         page.wait(troubles=[])
-        self.assertNotIn(f"from {LIT}", asked("status").stdout)
+        self.assertNotIn(f"from {LIT}", run_script("status").stdout)
 
     def two_desks(self, kept):
         """Two desks of one night, each open on another machine, show the same, whoever presses."""
-        venue, asked = self.night(kept, "of two")
+        venue, run_script = self.night(kept, "of two")
         words = ("--to", MULTICAST, "--interface", "lit", "--cid", uuid.uuid4())
-        self.assertEqual(0, asked("start", self.show, *words, "--background").returncode)
+        self.assertEqual(0, run_script("start", self.show, *words, "--background").returncode)
         guests = []
         for node, address in ((venue.stage, LIT), (venue.office, EVERYDAY)):
             listen = ("--listen", f"{address}:8090", "--double-go", 0)
-            out, _ = self.begun(kept, venue, "--night", self.folder / "of two", *map(str, listen))
+            words = ("--night", self.folder / "of two", *map(str, listen))
+            out, _ = self.begin_desk(kept, venue, *words)
             out.next()
             door = Door(out.next())
             self.assertEqual(204, node.within(lambda: door.enter(door.play)[0]))
@@ -253,14 +254,14 @@ class NightCards(DeskCardsTest):
 
     def card_that_is_late(self, kept):
         """A night that begins with its machine waits for its card."""
-        venue, asked = self.night(kept, "late")
+        venue, run_script = self.night(kept, "late")
         words = ("--to", MULTICAST, "--interface", LIT, "--cid", uuid.uuid4())
         venue.console.ip(f"addr del {LIT}/24 dev lit")
-        refused = asked("start", self.show, *words)
+        refused = run_script("start", self.show, *words)
         self.assertEqual(2, refused.returncode)
         self.assertIn(f"no card has {LIT}: there are ", refused.stdout)
-        self.assertEqual(0, asked("make", self.show, *words).returncode)
-        begun = asked("start", "--background")
+        self.assertEqual(0, run_script("make", self.show, *words).returncode)
+        begun = run_script("start", "--background")
         self.assertEqual(0, begun.returncode)
         self.assertIn("live waits for its network card", begun.stdout)
         venue.console.ip(f"addr add {LIT}/24 dev lit")

@@ -19,7 +19,7 @@ from browser import CHROMIUM, MISSING, Browser
 from desks import DeskTest, Page
 from tooling import PATIENCE, run_tool, wait_for
 
-from cueplayer_tools import desk_pins, desk_picture
+from cueplayer_tools import desk_picture, desk_pins
 from cueplayer_tools.desk_network import warnings
 from cueplayer_tools.desk_pins import Pins, Role
 from cueplayer_tools.own_addresses import is_public
@@ -74,15 +74,15 @@ class Door:
 
 
 class DoorTest(DeskTest):
-    def opened(self, *options, address="127.0.0.1:0", **kept):
-        desk, page = super().opened("--listen", address, *options, **kept)
+    def open_desk(self, *options, address="127.0.0.1:0", **kept):
+        desk, page = super().open_desk("--listen", address, *options, **kept)
         return desk, page, Door(desk.out.next())
 
 
 class Guests(DoorTest):
     def test_pin(self):
         """Without it there is only the page that asks for it; with it the session plays."""
-        desk, page, door = self.opened()
+        desk, page, door = self.open_desk()
         desk.err.find("desk: no TLS: the network is trusted")
         for name in ("/", "/pin.js"):
             self.assertNotRegex(door.request("GET", name)[1], r"https?://|<style|\son\w+=|\sstyle=")
@@ -102,14 +102,14 @@ class Guests(DoorTest):
 
     def test_cookie(self):
         """Scripts cannot read it, and other sites cannot use it."""
-        _, _, door = self.opened()
+        _, _, door = self.open_desk()
         kept = door.request("POST", "/session", door.play)[2]["Set-Cookie"]
         pattern = rf"desk-{door.port}=[\w-]{{32}}; Path=/; HttpOnly; SameSite=Strict"
         self.assertRegex(kept, f"^{pattern}$")
 
     def test_watch(self):
         """Who shows the other PIN sees everything, and moves nothing."""
-        _, page, door = self.opened()
+        _, page, door = self.open_desk()
         self.assertEqual(204, door.enter(door.watch)[0])
         self.assertEqual(403, door.press(page, "go"))
         self.assertEqual(403, door.request("POST", "/pins", "new")[0])
@@ -131,7 +131,7 @@ class Guests(DoorTest):
 
     def test_wrong_pins(self):
         """Five lock the address for a minute, which the desk tells; sessions go on."""
-        desk, page, door = self.opened()
+        desk, page, door = self.open_desk()
         door.enter(door.play)
         kept, door.cookie = door.cookie, None
         wrong = [
@@ -151,7 +151,7 @@ class Guests(DoorTest):
 
     def test_pins_changed(self):
         """A session that was stolen is none any more, and its page hears nothing."""
-        _, page, door = self.opened()
+        _, page, door = self.open_desk()
         door.enter(door.play)
         guest = self.guest(door)
         self.assertEqual(403, door.request("POST", "/pins", "new")[0])
@@ -170,7 +170,7 @@ class Guests(DoorTest):
 
     def test_requests_of_others(self):
         """Another host, another origin, another site, a cookie that is none: refused."""
-        _, page, door = self.opened()
+        _, page, door = self.open_desk()
         door.enter(door.play)
         good = door.cookie
         cases = (
@@ -201,14 +201,14 @@ class Guests(DoorTest):
 
     def test_names(self):
         """The page answers to a name that was given, and to no other."""
-        _, page, door = self.opened("--host", "desk.local")
+        _, page, door = self.open_desk("--host", "desk.local")
         door.enter(door.play)
         own = {"Host": f"Desk.local:{door.port}", "Origin": f"http://desk.local:{door.port}"}
         self.assertEqual(204, door.press(page, "go", **own))
 
     def test_many_connections(self):
         """However many come, and hold their requests back, presses of both doors are taken."""
-        _, page, door = self.opened()
+        _, page, door = self.open_desk()
         door.enter(door.play)
         with contextlib.ExitStack() as held:
             for turn in range(1_000):
@@ -258,7 +258,7 @@ class Guests(DoorTest):
         self.show.write_bytes(
             'CUE 1 ! a <b>\x1b[2J\u202eb</b> & "q" c\nCHAN 1@FL\nPATCH 1 1<1@FL\n'.encode()
         )
-        _, page, _ = self.opened()
+        _, page, _ = self.open_desk()
         name = page.newest["show"]["cues"][0]["name"]
         self.assertEqual('a <b> [2J b</b> & "q" c', name)
         self.assertEqual("a ?[2J?<b> \xe4.asc", page.newest["show"]["title"])
@@ -276,7 +276,7 @@ class Encrypted(DoorTest):
     def test_tls(self):
         """All goes encrypted; who speaks no TLS there gets nothing, and delays nobody."""
         certificate, key = self.certificate()
-        desk, page, door = self.opened("--certificate", certificate, "--key", key)
+        desk, page, door = self.open_desk("--certificate", certificate, "--key", key)
         self.assertTrue(door.origin.startswith("https://"))
         tls = ssl.create_default_context(cafile=certificate)
         with socket.create_connection((door.host, int(door.port)), timeout=PATIENCE) as plain:
@@ -294,14 +294,14 @@ class Encrypted(DoorTest):
         sent = {"Desk-Time": page.desk_time(), "Desk-State": page.state["number"]}
         self.assertEqual(204, door.request("POST", "/command", "go", tls, **sent)[0])
         page.wait(current="1")
-        self.assertNotIn("the network is trusted", self.told(desk))
+        self.assertNotIn("the network is trusted", self.messages(desk))
 
     def script(self, name):
         from cueplayer_tools.desk_server import PAGE
 
         return (PAGE / name).read_text()
 
-    def told(self, desk):
+    def messages(self, desk):
         desk.process.terminate()
         return "\n".join(desk.err.rest())
 
@@ -339,11 +339,11 @@ class InBrowser(DoorTest):
     def test_held_back(self):
         """What the network holds back for too long is told, and does nothing, then or later; of two
         presses that it holds back for less one counts."""
-        _, page, door = self.opened("--host", "127.0.0.2")
+        _, page, door = self.open_desk("--host", "127.0.0.2")
         relay = Relay(self, door, "127.0.0.2")
         door.origin = f"http://127.0.0.2:{door.port}"
         browser = Browser(self)
-        played = self.entered(browser, door, door.play)
+        played = self.enter(browser, door, door.play)
         played.wait("document.getElementById('next').textContent === '1 one'")
         played.wait("!document.body.classList.contains('is-dead')")
         relay.seconds = 0.9
@@ -366,9 +366,9 @@ class InBrowser(DoorTest):
         page.command("sub 1 50")
         self.assertEqual("1", page.wait(masters={"sub 1": 128})["current"])
 
-    def entered(self, browser, door, pin):
+    def enter(self, browser, door, pin):
         """The page of who has typed this PIN."""
-        page = browser.opened(f"{door.origin}/")
+        page = browser.open_page(f"{door.origin}/")
         page.wait("document.activeElement.id === 'pin'")
         self.assertEqual([], [name for name in page.names("textbox") if not name])
         page.value(f"document.getElementById('pin').value = '{pin}'")
@@ -378,11 +378,11 @@ class InBrowser(DoorTest):
     def test_pages(self):
         """By the PIN a page plays, by the other one it watches, and by none it asks again; new PINs
         send both out."""
-        _, page, door = self.opened()
+        _, page, door = self.open_desk()
         browsers = [Browser(self), Browser(self)]
         wrong = next(pin for pin in ("000000", "000001", "000002")
                      if pin not in (door.play, door.watch))
-        played = self.entered(browsers[0], door, wrong)
+        played = self.enter(browsers[0], door, wrong)
         for width in (1280, 390):
             played.call("Emulation.setDeviceMetricsOverride", width=width, height=844,
                         deviceScaleFactor=1, mobile=False)
@@ -390,7 +390,7 @@ class InBrowser(DoorTest):
         played.wait("document.getElementById('told').textContent.startsWith('wrong PIN')")
         played.value(f"document.getElementById('pin').value = '{door.play}'")
         played.press("Enter", "Enter", "\r")
-        watched = self.entered(browsers[1], door, door.watch)
+        watched = self.enter(browsers[1], door, door.watch)
         for each in (played, watched):
             each.wait("document.getElementById('next').textContent === '1 one'")
         watched.wait("document.getElementById('role').textContent.startsWith('Watching')")
@@ -412,9 +412,9 @@ class InBrowser(DoorTest):
         """The address as a picture, where python3-qrcode makes one."""
         self.file("qrcode.py", CODE)
         with mock.patch.dict(os.environ, PYTHONPATH=str(self.folder)):
-            _, address = self.begun("--listen", "127.0.0.1:0")
+            _, address = self.begin("--listen", "127.0.0.1:0")
         browser = Browser(self)
-        page = browser.opened(address)
+        page = browser.open_page(address)
         page.wait(
             "document.getElementById('modules').getAttribute('d') === 'M1 0h1v1h-1zM0 1h1v1h-1z'"
         )
@@ -425,9 +425,9 @@ class InBrowser(DoorTest):
     def test_new_pins(self):
         """This machine's own page has the address and the PINs, and makes new ones at the second
         press."""
-        _, address = self.begun("--listen", "127.0.0.1:0")
+        _, address = self.begin("--listen", "127.0.0.1:0")
         browser = Browser(self)
-        page = browser.opened(address)
+        page = browser.open_page(address)
         page.wait("!document.getElementById('guests').hidden")
         page.value("document.querySelector('[data-to=more]').click()")
         before = page.text("pin-play")

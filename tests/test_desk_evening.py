@@ -36,11 +36,11 @@ class Evening(DeskCardsTest):
         self.record = self.folder / "evening.play"
         self.way = ("--to", MULTICAST, "--interface", "lit", "--cid", self.cid)
         words = (self.show, *self.way, "--record", self.record, "--listen", f"{LIT}:8090")
-        out, _ = self.begun(kept, self.venue, *words)
+        out, _ = self.begin_desk(kept, self.venue, *words)
         out.next()
         door = Door(out.next())
         self.browser = Browser(self, self.venue.stage.words())
-        self.page = self.browser.opened(f"{door.origin}/", **SIZE)
+        self.page = self.browser.open_page(f"{door.origin}/", **SIZE)
         self.page.call("Emulation.setTouchEmulationEnabled", enabled=True)
         self.page.wait("document.activeElement.id === 'pin'")
         self.page.call("Input.insertText", text=door.play)

@@ -35,9 +35,9 @@ class DeskFolderTest(FolderNightTest):
 class Desk(DeskFolderTest):
     def test_takes_hold(self):
         """It shows where the night is, and plays it; what shells do meanwhile is shown too."""
-        self.begun()
+        self.begin_night()
         for line in ("goto 2 in 0", "sub 1 50", "master H40"):
-            self.assertEqual(0, self.asked(*line.split()).status)
+            self.assertEqual(0, self.run_script(*line.split()).status)
         _, page = self.desk()
         page.wait(current="2", next="3", grand=64, masters={"sub 1": 128})
         self.assertEqual(204, page.command("go"))
@@ -49,7 +49,7 @@ class Desk(DeskFolderTest):
 
     def test_two_desks(self):
         """Side by side both show what either does; a refusal is told by the one that asked."""
-        self.begun()
+        self.begin_night()
         (_, one), (_, two) = self.desk(), self.desk()
         one.command("go")
         two.wait(current="1", waiting=0)
@@ -63,13 +63,13 @@ class Desk(DeskFolderTest):
 
     def test_desk_is_killed(self):
         """The light does not notice, and the next desk takes hold of the night where it is."""
-        self.begun()
+        self.begin_night()
         desk, page = self.desk()
         page.command("go")
         numbers = self.wait_for_level(128)
         desk.process.kill()
         desk.process.wait()
-        self.asked("sub", "1", "H99")
+        self.run_script("sub", "1", "H99")
         numbers += self.wait_for_level(0x99)
         self.assertNumbered(numbers)
         _, again = self.desk()
@@ -77,7 +77,7 @@ class Desk(DeskFolderTest):
 
     def test_desk_is_left(self):
         """Control-C and SIGTERM leave the desk alone, at the first press."""
-        self.begun()
+        self.begin_night()
         for name in ("INT", "TERM"):
             desk, _ = self.desk()
             desk.process.send_signal(signal.Signals[f"SIG{name}"])
@@ -86,7 +86,7 @@ class Desk(DeskFolderTest):
 
     def test_live_is_killed(self):
         """The pages tell it, and show the state again; the press after is taken."""
-        self.begun()
+        self.begin_night()
         _, page = self.desk()
         page.command("go")
         page.wait(current="1", waiting=0)
@@ -101,7 +101,7 @@ class Desk(DeskFolderTest):
     def test_press_that_nobody_takes(self):
         """Where no `live` plays a press is refused at once, and what to do is told; with the next
         one the desk goes on."""
-        self.begun()
+        self.begin_night()
         _, page = self.desk()
         self.kill_all()
         wait_for(lambda: not NightFolder(str(self.night)).is_played(), "no reader")
@@ -110,13 +110,13 @@ class Desk(DeskFolderTest):
         told = f"no live plays the night in {self.night}: {start} goes on with it"
         wait_for(lambda: told in page.notices(), told)
         page.wait(late=True)
-        self.assertEqual(0, self.asked("start", "--background").status)
+        self.assertEqual(0, self.run_script("start", "--background").status)
         wait_for(lambda: page.command("go") == 204, "a press that is taken")
         page.wait(current="1", waiting=0, status=None, late=False)
 
     def test_all_are_killed(self):
         """Desk, keeper, `live` and its spare: `start` and a new desk bring back what was."""
-        self.begun()
+        self.begin_night()
         desk, page = self.desk()
         page.command("goto 3")
         page.wait(current="3", waiting=0)
@@ -125,7 +125,7 @@ class Desk(DeskFolderTest):
         done = run_tool("desk", "--night", self.night)
         self.assertEqual(1, done.returncode)
         self.assertIn("desk: no live plays the night in", done.stderr)
-        self.assertEqual(0, self.asked("start", "--background").status)
+        self.assertEqual(0, self.run_script("start", "--background").status)
         _, page = self.desk()
         page.wait(current="3", next=None)
 
@@ -133,12 +133,12 @@ class Desk(DeskFolderTest):
         """By the page, and by a shell: each page says that the night is over."""
         for by in ("page", "shell"):
             with self.subTest(by):
-                self.begun()
+                self.begin_night()
                 desk, page = self.desk()
                 if by == "page":
                     page.command("end")
                 else:
-                    self.asked("end")
+                    self.run_script("end")
                 page.wait(status=0)
                 self.assertEqual("desk: live has ended with status 0", self.last_line(desk))
                 self.wait_for_reply("the night has ended")
@@ -150,15 +150,15 @@ class Desk(DeskFolderTest):
         return desk.err.find("desk: live has ended .*")[0]
 
     def test_end_without_a_keeper(self):
-        self.begun()
+        self.begin_night()
         _, page = self.desk()
         self.kill("lock")
-        self.asked("end")
+        self.run_script("end")
         page.wait(status=0)
 
     def test_live_that_stands_still(self):
         """The page says so; what is not read is taken back by the keeper, and told."""
-        self.begun()
+        self.begin_night()
         _, page = self.desk()
         live = self.number("pid")
         stand_still(live)
@@ -180,7 +180,7 @@ class Desk(DeskFolderTest):
         done = run_tool("desk", "--night", self.night)
         told = f"desk: no night in {self.night}: No such file or directory\n"
         self.assertEqual((1, "", told), (done.returncode, done.stdout, done.stderr))
-        self.asked("make", *self.words)
+        self.run_script("make", *self.words)
         done = run_tool("desk", "--night", self.night)
         self.assertEqual(1, done.returncode)
         self.assertIn(f"no live plays the night in {self.night}", done.stderr)
@@ -200,7 +200,7 @@ class Osc(DeskFolderTest):
     def test_night(self):
         """Its lines go into the night, beside those of a shell; where none plays they are
         refused."""
-        self.begun()
+        self.begin_night()
         osc, send = self.osc()
         send(GO)
         self.wait_for_level(128)
@@ -211,13 +211,13 @@ class Osc(DeskFolderTest):
         wait_for(lambda: not NightFolder(str(self.night)).is_played(), "no reader")
         send(GO)
         self.assertRegex(osc.err.next(), r": go: no live plays the night in .*; nothing was sent$")
-        self.asked("start", "--background")
+        self.run_script("start", "--background")
         send(GO)
         self.wait_for_reply(r"^\d+ cue 2$")
         self.assertIsNone(osc.process.poll())
 
     def test_desk_with_osc(self):
-        self.begun()
+        self.begin_night()
         _, page = self.desk("--osc", 0)
         host, port = page.newest["show"]["osc"].split(":")
         with socket.socket(socket.AF_INET, socket.SOCK_DGRAM) as sender:

@@ -9,7 +9,7 @@ from desks import DeskTest
 class Guards(DeskTest):
     def test_requests_of_others(self):
         """Without the address's word, under another name, or of another page: refused."""
-        _, page = self.opened()
+        _, page = self.open_desk()
         port = page.host.split(":")[1]
         go = ("POST", "command", b"go")
         cases = (
@@ -46,7 +46,7 @@ class Guards(DeskTest):
 
     def test_headers(self):
         """Nothing is loaded from elsewhere, framed, kept or told to others."""
-        _, page = self.opened()
+        _, page = self.open_desk()
         for name in ("", "desk.css", "press.js", "cues.js", "faders.js", "desk.js"):
             status, content, headers = page.request("GET", name)
             self.assertEqual((200, "no-store"), (status, headers["Cache-Control"]))
@@ -59,7 +59,7 @@ class Guards(DeskTest):
             self.assertNotRegex(content.decode(), elsewhere)
 
     def test_only_this_machine(self):
-        _, page = self.opened()
+        _, page = self.open_desk()
         port = int(page.host.split(":")[1])
         with socket.socket() as other:
             with self.assertRaises(ConnectionRefusedError):

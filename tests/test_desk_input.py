@@ -36,7 +36,7 @@ class Pipe(unittest.TestCase):
         self.assertEqual([], self.input.take_back())
         self.assertEqual(b"1 H10\n\n", self.read(100))
         self.assertFalse(self.input.stands_still())
-        self.assertEqual("sub 1 H10", self.input.answered())
+        self.assertEqual("sub 1 H10", self.input.take_answered())
         self.input.give("go")
         self.assertEqual(b"go\n", self.read(100))
 
@@ -47,7 +47,7 @@ class Pipe(unittest.TestCase):
         self.assertEqual(("go", True), (self.input.oldest(), self.input.is_asked()))
         self.input.forget_asked()
         self.assertEqual(("sub 1 H10", False), (self.input.oldest(), self.input.is_asked()))
-        self.assertEqual("sub 1 H10", self.input.answered())
+        self.assertEqual("sub 1 H10", self.input.take_answered())
         self.assertIsNone(self.input.oldest())
 
     def test_by_chance(self):
@@ -70,7 +70,7 @@ class Pipe(unittest.TestCase):
         read += self.read(65_536)
         lines = [line for line in read.decode().split("\n") if line]
         self.assertEqual([line for line in given if line not in set(taken)], lines)
-        self.assertEqual(lines, [self.input.answered() for _ in lines])
-        self.assertIsNone(self.input.answered())
+        self.assertEqual(lines, [self.input.take_answered() for _ in lines])
+        self.assertIsNone(self.input.take_answered())
         self.assertGreater(len(taken), 100)
         self.assertGreater(len(lines), 100)

@@ -54,7 +54,7 @@ class StubTest(FolderTest):
         """Has the program read what is handed to it, from here on."""
         self.given = Lines(open(self.folder / "given"))
 
-    def begun(self, show=SHOW, place="0 where next 1 master 255"):
+    def begin_night(self, show=SHOW, place="0 where next 1 master 255"):
         """A night whose `where` is answered."""
         self.begin(show)
         self.read()
@@ -104,7 +104,7 @@ class Places(StubTest):
 
     def test_follow_on(self):
         """A cue that follows by itself is current once that is told."""
-        self.begun(FOLLOWED)
+        self.begin_night(FOLLOWED)
         self.give("go")
         self.say("100 ok", "100 cue 1")
         for _ in range(20):
@@ -117,7 +117,7 @@ class Places(StubTest):
 
     def test_answer_is_no_move(self):
         """What is accepted moves nothing by itself."""
-        self.begun()
+        self.begin_night()
         self.give("go")
         self.say("5 ok")
         self.assertShows(None, 1000)
@@ -127,7 +127,7 @@ class Places(StubTest):
     def test_time_of_a_move(self):
         """`goto N in TIME` takes its time, and so does no other move: none that was due before it,
         and none behind it."""
-        self.begun(FOLLOWED)
+        self.begin_night(FOLLOWED)
         for line, said, fades in (
             ("goto 2 in 8", ("700 ok", "500 cue 2", "600 cue 3", "700 cue 2"), (3000, 0, 8000)),
             ("goto 2", ("700 ok", "700 cue 2"), (3000,)),
@@ -149,7 +149,7 @@ class MissingReplies(StubTest):
     def test_replies_dropped(self):
         """Where answers are missing, none is taken for that of another line, and nothing is handed
         on, until the state is read again."""
-        self.begun()
+        self.begin_night()
         self.give("go")
         self.say("100 ok", "100 cue 1")
         for line in ("go", "sub 1 HFF", "goto 7"):
@@ -169,7 +169,7 @@ class MissingReplies(StubTest):
 
     def test_move_dropped(self):
         """A move that was not told is shown once the state is read again; its fade is not known."""
-        self.begun()
+        self.begin_night()
         self.give("goto 1.5")
         self.say("100 ok", "100 cue 1.5")
         self.assertShows(1500, 2000, 3000)
@@ -181,7 +181,7 @@ class MissingReplies(StubTest):
 
     def test_dropped_again(self):
         """Also the answer to `where` may be missing. Whichever comes, the state is right."""
-        self.begun()
+        self.begin_night()
         self.say("2 replies dropped")
         self.expect("where")
         self.say("2 replies dropped")
@@ -195,7 +195,7 @@ class MissingReplies(StubTest):
 
     def test_unread(self):
         """What the program had not read as replies were lost is taken back like all else."""
-        self.begun()
+        self.begin_night()
         stand_still(self.night.process.pid)
         self.night.give("go")
         self.say("2 replies dropped")
@@ -212,7 +212,7 @@ class MissingReplies(StubTest):
 
     def test_end_while_unsure(self):
         """Lost replies hold up presses for a second, but no end of the night."""
-        self.begun()
+        self.begin_night()
         self.say("2 replies dropped")
         self.expect("where")
         self.night.end(1.0)
@@ -222,7 +222,7 @@ class MissingReplies(StubTest):
 class OtherLines(StubTest):
     def test_answer_to_another(self):
         """An answer to a line that was not handed on here has the state read again."""
-        self.begun()
+        self.begin_night()
         self.say("100 ok")
         self.expect("where")
         self.say("120 where next 1 master 255 group 3:9")
@@ -233,7 +233,7 @@ class OtherLines(StubTest):
 
     def test_answer_to_another_first(self):
         """Where it is taken for that of a line of one's own, the state is right soon after."""
-        self.begun()
+        self.begin_night()
         self.give("sub 1 HFF")
         self.say("100 ok", "100 refused NoSub")
         self.expect("where")
@@ -242,7 +242,7 @@ class OtherLines(StubTest):
 
     def test_place_for_another(self):
         """The answer to somebody else's `where` is none to a line of one's own."""
-        self.begun()
+        self.begin_night()
         self.give("sub 1 HFF")
         self.say("100 where next 1 master 255", "110 ok")
         self.assertShows(None, 1000, masters={"sub 1": 255})
@@ -255,7 +255,7 @@ class OtherLines(StubTest):
 
     def test_end(self):
         """The end of a night has two answers, and nothing is asked behind it."""
-        self.begun()
+        self.begin_night()
         self.give("goto 1.5")
         self.say("50 ok", "50 cue 1.5")
         self.give("end")
@@ -267,7 +267,7 @@ class OtherLines(StubTest):
 
     def test_unknown_line(self):
         """What is no line of `live` is told, and what comes behind it is read."""
-        self.begun()
+        self.begin_night()
         self.say("100 cue 1.50", "100 cue 1")
         self.assertShows(1000, 1500, 0)
         told = "desk: ValueError('no cue number as live spells it') at: 100 cue 1.50"
@@ -304,7 +304,7 @@ class Messages(MessageTest):
 
     def test_start(self):
         """What the program says as it begins is for the terminal; the page has what is skipped."""
-        self.begun()
+        self.begin_night()
         typed = "end ends the night, leave leaves the light to others; control-C does nothing"
         kept = [self.SKIPPED, self.SENDS, "record: night.play"]
         self.hear(*kept, typed)
@@ -313,13 +313,13 @@ class Messages(MessageTest):
         self.assertEqual("3 lines skipped: see cueplayer explain", self.night.state.skipped)
 
     def test_nothing_skipped(self):
-        self.begun()
+        self.begin_night()
         self.hear("show: 1 cue, 0 submasters, 0 groups, 1 dimmer", self.SENDS)
         self.assertEqual(([], ""), (self.notices(), self.night.state.skipped))
 
     def test_faults(self):
         """All else is told on the page as it is, also where it begins like a line of the start."""
-        self.begun()
+        self.begin_night()
         faults = [
             "show: TooLong", self.SENDS, "record: 3 bytes are still with its writer",
             "line refused: go 4: go takes no number; goto 4 goes to a cue",
@@ -331,7 +331,7 @@ class Messages(MessageTest):
 
     def test_record(self):
         """A record that cannot be written, or is late, is a trouble in words until it is over."""
-        self.begun()
+        self.begin_night()
         self.hear(self.SKIPPED, self.SENDS, "record: night.play")
         self.hear("record: late, and the light goes on")
         (late,) = self.night.state.troubles.values()
@@ -356,7 +356,7 @@ class Links(MessageTest):
     def test_start(self):
         """By which cards it sends; which others there are is told on the page, and no more than
         that."""
-        self.begun()
+        self.begin_night()
         others = "other cards: lit (10.101.2.10); --interface lit sends by it"
         ways = ["from 10.101.1.10 (eth0), the default route", "from 127.0.0.1 (lo)"]
         targets = ["target: 239.255.0.0:5568 (multicast)", "target: universe 3 to 127.0.0.1:5568"]
@@ -370,7 +370,7 @@ class Links(MessageTest):
 
     def test_over(self):
         """Each kind, and the line by which it is over; none is a notice."""
-        self.begun()
+        self.begin_night()
         for trouble, over in (
             ("no link lit: nodes get nothing; check the cable", "link lit"),
             ("lit is down: nodes get nothing; ip link set lit up", "link lit"),
@@ -399,7 +399,7 @@ class Links(MessageTest):
     def test_several(self):
         """Each stands by itself. What a `where` tells again is no new one, and another of the same
         card takes the place of the one before."""
-        self.begun()
+        self.begin_night()
         self.hear(
             "0:00:01 no link lit: a", "0:00:02 no link off: a", "0:00:03 lit has lost 10.0.0.1: b"
         )
@@ -418,7 +418,7 @@ class Links(MessageTest):
 
     def test_first_route(self):
         """A night that begins without a network: once it has one, what is still wrong is asked."""
-        self.begun()
+        self.begin_night()
         hosts = ("239.255.0.0", "10.0.0.7")
         without = [f"no route to {host}: nodes get nothing until there is one" for host in hosts]
         self.hear(*self.START, *without, self.RECORD, "end ends the night")
@@ -433,7 +433,7 @@ class Links(MessageTest):
 
     def test_another_live(self):
         """One that begins in the place of another says anew what is wrong."""
-        self.begun()
+        self.begin_night()
         self.hear(*self.START, "from 10.0.0.1 (lit)", self.RECORD, "end ends the night")
         self.hear("0:00:01 no link lit: a")
         with self.night.changed:
@@ -444,7 +444,7 @@ class Links(MessageTest):
 
     def test_no_such_line(self):
         """What only looks like one is a fault like any other."""
-        self.begun()
+        self.begin_night()
         faults = ["link lit", "0:00:01 link", "0:00:01 lit is up", "0:0:01 link lit", "1 link lit"]
         self.hear("0:00:01 no link lit: a", *faults)
         self.assertTroubles("0:00:01 no link lit: a")

@@ -48,9 +48,9 @@ HIDDEN = """(() => {
 class DeskPage(DeskTest):
     def shown_page(self, *options, **size):
         """A desk, its page in a browser, and what a page of our own hears of the same night."""
-        desk, address = self.begun(*options)
+        desk, address = self.begin(*options)
         self.browser = Browser(self)
-        page = self.browser.opened(address, **size)
+        page = self.browser.open_page(address, **size)
         page.wait("document.getElementById('next').textContent === '1 one'")
         page.wait("!document.body.classList.contains('is-dead')")
         return desk, page, Page(self, address)
@@ -104,9 +104,9 @@ class DeskPage(DeskTest):
         datagrams."""
         self.show.write_bytes((TOP / "examples/small-play.asc").read_bytes())
         record = self.folder / "evening.play"
-        _, address = self.begun("--record", record)
+        _, address = self.begin("--record", record)
         self.browser = Browser(self)
-        page, state = self.browser.opened(address), Page(self, address)
+        page, state = self.browser.open_page(address), Page(self, address)
         page.wait("!document.body.classList.contains('is-dead')")
         came = []
         for cue in ("0.5", "1", "1.5", "2", "3", "4", "5"):
@@ -218,9 +218,9 @@ class DeskPage(DeskTest):
         lines = ("CUE 1", "UP 1:30 2.5", "DOWN 4", "FOLLOWON 3", "CUE 2", "UP 5", "DOWN 5", "CUE 3",
                  "FOLLOWON 2", "CHAN 1@FL", "PATCH 1 1<1@FL")
         self.show.write_bytes(text(*lines))
-        _, address = self.begun()
+        _, address = self.begin()
         self.browser = Browser(self)
-        page = self.browser.opened(address)
+        page = self.browser.open_page(address)
         page.wait("document.querySelectorAll('#cues button').length === 3")
         told = [
             page.value(f"[...{self.cue(at)}.children].map((each) => each.textContent).join('|')")
@@ -334,9 +334,9 @@ class DeskPage(DeskTest):
         page.press(" ", "Space", " ")
         state.wait(current="1")
         page.close()
-        again = self.browser.opened(f"{state.origin}{state.path}")
+        again = self.browser.open_page(f"{state.origin}{state.path}")
         again.wait("document.getElementById('current').textContent === '1 one'")
-        other = self.browser.opened(f"{state.origin}{state.path}")
+        other = self.browser.open_page(f"{state.origin}{state.path}")
         other.wait("document.getElementById('current').textContent === '1 one'")
         other.press(" ", "Space", " ")
         state.wait(current="1.5")
@@ -428,10 +428,10 @@ class DeskPage(DeskTest):
         """Four pages of a browser listen, so that presses have a way; a fifth is told."""
         _, first, state = self.shown_page()
         address = f"{state.origin}{state.path}"
-        others = [self.browser.opened(address) for _ in range(3)]
+        others = [self.browser.open_page(address) for _ in range(3)]
         for page in others:
             page.wait("!document.body.classList.contains('is-dead')")
-        more = [self.browser.opened(address) for _ in range(2)]
+        more = [self.browser.open_page(address) for _ in range(2)]
         for page in more:
             page.wait("document.getElementById('alarms').innerText.startsWith('4 pages of this')")
             page.wait("document.getElementById('link').innerText === 'One page too many'")
@@ -466,12 +466,12 @@ class DeskPage(DeskTest):
         ]
         subs = [line for number in range(1, 9) for line in (f"SUB {number} ! sub", "CHAN 1@FL")]
         self.show.write_bytes(text(*cues, *subs, "PATCH 1 1<1@FL"))
-        _, address = self.begun()
+        _, address = self.begin()
         state = Page(self, address)
         state.wait(placed=True)
         state.command("goto 27 in 0")
         self.browser = Browser(self)
-        page = self.browser.opened(address)
+        page = self.browser.open_page(address)
         page.wait("document.getElementById('current').textContent === '27 scene 27'")
         for width, height in SIZES:
             page.call("Emulation.setDeviceMetricsOverride", width=width, height=height,
@@ -571,9 +571,9 @@ class Grid(DeskTest):
     @unittest.skipUnless(watches(), NO_WATCH)
     def test_grid(self):
         self.receiver.close()
-        _, address = self.begun("--grid")
+        _, address = self.begin("--grid")
         browser = Browser(self)
-        page = browser.opened(address)
+        page = browser.open_page(address)
         page.wait("document.getElementById('lit').innerText === '0 slots lit'")
         page.value("document.querySelector('[data-to=levels]').click()")
         Page(self, address).command("sub 1 50")

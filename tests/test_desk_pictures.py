@@ -48,10 +48,10 @@ class DeskPictures(PicturesTest):
             with self.subTest(f"{part}: {style}"):
                 place = f"document.getElementById('{part}').style.{style}"
                 self.page.value(f"{place} = '{value}'")
-                faults = self.darkroom.faults(self.darkroom.taken(self.page), kept)
+                faults = self.darkroom.faults(self.darkroom.take(self.page), kept)
                 self.assertTrue(any(fault.startswith(told) for fault in faults), faults)
                 self.page.value(f"{place} = ''")
-                self.assertEqual([], self.darkroom.faults(self.darkroom.taken(self.page), kept))
+                self.assertEqual([], self.darkroom.faults(self.darkroom.take(self.page), kept))
 
     def test_turned(self):
         """A tablet that is turned shows the current cue, the next one and what is behind them."""
@@ -68,11 +68,11 @@ class DeskPictures(PicturesTest):
         cues = [line for number in range(1, 31)
                 for line in (f"CUE {number}.125 ! {number} {name}", "FOLLOWON 1000")]
         self.show.write_bytes(text(*cues, f"SUB 1 ! {name}", "CHAN 1@FL", "PATCH 1 1<1@FL"))
-        _, address = self.begun()
+        _, address = self.begin()
         heard = Page(self, address)
         heard.wait(placed=True)
         heard.command("goto 27.125 in 0")
-        page = Browser(self).opened(address)
+        page = Browser(self).open_page(address)
         page.wait("document.getElementById('follow').textContent !== ''")
         for width, height in SIZES:
             resize(page, width, height)
@@ -90,7 +90,7 @@ class DeskPictures(PicturesTest):
         """The pictures of the pages show the page as it is."""
         for name, page in self.doc_pages():
             with self.subTest(name):
-                shown = self.darkroom.taken(page)
+                shown = self.darkroom.take(page)
                 kept = self.darkroom.small((TOP / f"docs/{name}.webp").read_bytes(), "webp")
                 self.assertEqual([], self.darkroom.colour_faults(shown, kept))
 

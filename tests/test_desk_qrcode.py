@@ -35,7 +35,7 @@ def interpreter():
 @unittest.skipUnless(interpreter(), "no Python here has python3-qrcode")
 @unittest.skipUnless(shutil.which("zbarimg"), "no zbarimg (zbar-tools) is on PATH")
 class QrCode(DoorTest):
-    def decoded(self, name, picture):
+    def decode(self, name, picture):
         """What a reader finds in a picture."""
         path = self.file(name, picture)
         words = ["zbarimg", "--quiet", "--raw", "-Sdisable", "-Sqrcode.enable", path]
@@ -75,7 +75,7 @@ class QrCode(DoorTest):
                 lines += [" ".join(line)] * SIDE
         size = f"P1\n{len(code[0]) * SIDE} {len(lines)}\n"
         picture = size + "\n".join(lines) + "\n"
-        self.assertEqual(address, self.decoded("code.pbm", picture.encode()))
+        self.assertEqual(address, self.decode("code.pbm", picture.encode()))
 
     @unittest.skipUnless(CHROMIUM, MISSING)
     def test_page(self):
@@ -87,7 +87,7 @@ class QrCode(DoorTest):
             here = lines.readline().strip().removeprefix("desk: ")
             address = re.match(r"desk: (\S+) by a PIN", lines.readline())[1]
             browser = Browser(self)
-            page = browser.opened(here)
+            page = browser.open_page(here)
             Page(self, here).wait(placed=True)
             page.wait("document.getElementById('modules').getAttribute('d') !== null")
             page.value("document.querySelector('[data-to=more]').click()")
@@ -95,7 +95,7 @@ class QrCode(DoorTest):
                 page.value(f"document.querySelector('[data-theme-is={theme}]').click()")
                 page.wait(f"document.documentElement.dataset.theme === '{theme}'")
                 shot = page.call("Page.captureScreenshot", format="png")["data"]
-                self.assertEqual(address, self.decoded(f"{theme}.png", base64.b64decode(shot)))
+                self.assertEqual(address, self.decode(f"{theme}.png", base64.b64decode(shot)))
 
 
 if __name__ == "__main__":

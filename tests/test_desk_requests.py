@@ -21,7 +21,7 @@ from cueplayer_tools.desk_requests import LONGEST_HEAD, Unreadable, request_in
 
 
 class Requests(DeskTest):
-    def sent(self, page, data, is_over=True):
+    def status_of(self, page, data, is_over=True):
         """The status that these bytes are answered with; None where there is no answer."""
         host, port = page.host.split(":")
         with socket.create_connection((host, int(port)), timeout=10) as connection:
@@ -45,20 +45,20 @@ class Requests(DeskTest):
 
     def test_command_cut_short(self):
         """A command that does not come whole is none: 10 percent is not 100."""
-        _, page = self.opened()
-        self.assertEqual(400, self.sent(page, self.command(page, b"sub 1 10", size=9)))
-        self.assertEqual(400, self.sent(page, self.command(page, b"sub 1 100", size=8)))
-        self.assertEqual(204, self.sent(page, self.command(page, b"sub 1 20")))
+        _, page = self.open_desk()
+        self.assertEqual(400, self.status_of(page, self.command(page, b"sub 1 10", size=9)))
+        self.assertEqual(400, self.status_of(page, self.command(page, b"sub 1 100", size=8)))
+        self.assertEqual(204, self.status_of(page, self.command(page, b"sub 1 20")))
         page.wait(masters={"sub 1": 51})
         whole = self.command(page, b"sub 1 100")
         for size in range(1, len(whole), 7):
-            self.assertEqual(400, self.sent(page, whole[:size]), whole[:size])
+            self.assertEqual(400, self.status_of(page, whole[:size]), whole[:size])
         page.command("group 3 FL")
         page.wait(masters={"sub 1": 51, "group 3": 255})
 
     def test_malformed(self):
         """What is no request is answered, and does nothing."""
-        _, page = self.opened()
+        _, page = self.open_desk()
         whole = self.command(page, b"go")
         cases = {
             400: (
@@ -86,7 +86,7 @@ class Requests(DeskTest):
         for status, requests in cases.items():
             for request in requests:
                 with self.subTest(request[:200]):
-                    self.assertEqual(status, self.sent(page, request))
+                    self.assertEqual(status, self.status_of(page, request))
         page.command("sub 1 FL")
         self.assertIsNone(page.wait(masters={"sub 1": 255})["current"])
 
@@ -127,11 +127,11 @@ class Requests(DeskTest):
 
     def test_slow_request(self):
         """A request has two seconds, however it is spread over them."""
-        _, page = self.opened()
+        _, page = self.open_desk()
         whole = self.command(page, b"sub 1 100")
         for sent in (whole[:1], whole[:-1]):
             before = time.monotonic()
-            self.assertEqual(408, self.sent(page, sent, is_over=False))
+            self.assertEqual(408, self.status_of(page, sent, is_over=False))
             in_time(took(before), 8000, "a request")
         host, port = page.host.split(":")
         with socket.create_connection((host, int(port)), timeout=10) as connection:
@@ -146,7 +146,7 @@ class Requests(DeskTest):
 
     def test_many_slow_connections(self):
         """However many hold a request back, a press is taken at once."""
-        desk, page = self.opened()
+        desk, page = self.open_desk()
         few = (200, 200)
         resource.prlimit(desk.process.pid, resource.RLIMIT_NOFILE, few)
         host, port = page.host.split(":")
@@ -167,7 +167,7 @@ class Flooded(DeskTest):
     def test_all_at_once(self):
         """A flood of datagrams, slow connections and 32 pages: a GO is taken in a second, and the
         memory of the desk stays as it is."""
-        desk, page = self.opened("--osc", 0)
+        desk, page = self.open_desk("--osc", 0)
         host, port = page.newest["show"]["osc"].split(":")
         is_over = threading.Event()
 
@@ -217,7 +217,7 @@ class Flooded(DeskTest):
 class Late(DeskTest):
     def test_late_press(self):
         """What was pressed too long ago, or does not say when, is refused, told, and not done."""
-        _, page = self.opened()
+        _, page = self.open_desk()
         wait_for(lambda: int(page.desk_time()) > 1500, "the desk's clock")
         self.assertEqual(409, page.command("go", Desk_Time=page.desk_time(ago=1000)))
         told = r"^go: pressed [\d.]+ s ago, too late: nothing was sent$"
@@ -234,7 +234,7 @@ class Late(DeskTest):
 
     def test_desk_that_stands_still(self):
         """A press that waited for the desk is not carried out when it goes on."""
-        desk, page = self.opened()
+        desk, page = self.open_desk()
         host, port = page.host.split(":")
         head = (
             f"POST {page.path}command HTTP/1.1\r\nHost: {page.host}\r\nOrigin: {page.origin}\r\n"
@@ -253,7 +253,7 @@ class Late(DeskTest):
     def test_live_that_reads_nothing(self):
         """A press that `live` does not read in a second is taken back, and those behind it are
         refused until `live` reads again."""
-        desk, page = self.opened()
+        desk, page = self.open_desk()
         stand_still(desk.live)
         self.assertEqual([204, 204], [page.command("go"), page.command("sub 1 FL")])
         page.wait(late=True, waiting=0, current=None)
@@ -274,7 +274,7 @@ class TooMany(DeskTest):
 
     def test_double_go(self):
         """A second GO within the time is refused, and told; one behind it is taken."""
-        desk, page = self.opened("--double-go", 10_000)
+        desk, page = self.open_desk("--double-go", 10_000)
         self.assertEqual(204, page.command("go", Desk_Time=page.desk_time()))
         page.wait(current="1", waiting=0)
         self.assertEqual(409, page.command("go"))
@@ -290,7 +290,7 @@ class TooMany(DeskTest):
 
     def test_usual_time(self):
         """It is 400 ms where nothing else is said, from press to press."""
-        desk, page = self.opened("--double-go", 400)
+        desk, page = self.open_desk("--double-go", 400)
         wait_for(lambda: int(page.desk_time()) > 1500, "the desk's clock")
         self.assertEqual(204, page.command("go", Desk_Time=page.desk_time(ago=600)))
         page.wait(current="1", waiting=0)
@@ -304,7 +304,7 @@ class TooMany(DeskTest):
 
     def test_state_that_is_over(self):
         """GO and BACK count for the cue that the page showed as next; other presses for any."""
-        _, page = self.opened()
+        _, page = self.open_desk()
         before = page.state["number"]
         self.assertEqual(204, page.command("go", Desk_State=before))
         page.wait(current="1", waiting=0)
@@ -326,7 +326,7 @@ class TooMany(DeskTest):
 
     def test_move_on_its_way(self):
         """A GO behind one that has no answer yet is refused: the page still shows the old cue."""
-        desk, page = self.opened()
+        desk, page = self.open_desk()
         stand_still(desk.live)
         self.assertEqual(204, page.command("go"))
         self.assertEqual(409, page.command("go"))
@@ -340,7 +340,7 @@ class TooMany(DeskTest):
         """A GO that was pressed as a cue went by itself does not skip it."""
         lines = ("CUE 1", "FOLLOWON 1", "CUE 2", "CUE 3", "CHAN 1@FL", "PATCH 1 1<1@FL")
         self.show.write_bytes(text(*lines))
-        _, page = self.opened()
+        _, page = self.open_desk()
         page.command("go")
         seen = page.wait(current="1", waiting=0)["number"]
         page.wait(current="2")

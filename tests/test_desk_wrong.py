@@ -12,7 +12,7 @@ from folders import resumes
 from program import CID, packet
 from test_desk_folder import NO_RESUME, DeskFolderTest
 from tooling import wait_for
-from wire import address_of, receiving
+from wire import address_of, receiver_socket
 
 from cueplayer_tools.live_links import Mended, Trouble, read_link_line
 
@@ -33,7 +33,7 @@ class Record(DeskTest):
 
     def test_full_disk(self):
         """A record that cannot be written stands there to the end, in words."""
-        _, page = self.opened("--record", "/dev/full")
+        _, page = self.open_desk("--record", "/dev/full")
         page.command("go")
         page.wait(current="1")
         wait_for(lambda: page.state["troubles"], "the trouble")
@@ -46,7 +46,7 @@ class Record(DeskTest):
 class BrokenOff(DeskTest):
     def test_taken_up(self):
         """It goes on where it was: the cue, the masters, and the stream."""
-        desk, page = self.opened("--record", self.folder / "night.play")
+        desk, page = self.open_desk("--record", self.folder / "night.play")
         for line in ("goto 2 in 0", "sub 1 FL", "master H80"):
             page.command(line)
         page.wait(current="2", masters={"sub 1": 255}, grand=128, resumes=False)
@@ -73,7 +73,7 @@ class BrokenOff(DeskTest):
 
     def test_once_more(self):
         """It may be broken off, and taken up, as often as that happens; two presses are one."""
-        desk, page = self.opened("--record", self.folder / "night.play")
+        desk, page = self.open_desk("--record", self.folder / "night.play")
         page.command("go")
         page.wait(current="1")
         live = desk.live
@@ -89,10 +89,10 @@ class BrokenOff(DeskTest):
 
     def test_no_record(self):
         """Without one, and behind an end, there is nothing to take up."""
-        desk, page = self.opened()
+        desk, page = self.open_desk()
         os.kill(desk.live, signal.SIGKILL)
         page.wait(status=-signal.SIGKILL, resumes=False)
-        _, page = self.opened("--record", self.folder / "ended.play")
+        _, page = self.open_desk("--record", self.folder / "ended.play")
         page.command("end")
         page.wait(status=0, resumes=False)
 
@@ -101,7 +101,7 @@ class BrokenOff(DeskTest):
 class BrokenOffFolder(DeskFolderTest):
     def test_taken_up(self):
         """Where nobody keeps the night any more the desk goes on with it, as `start` does."""
-        self.begun()
+        self.begin_night()
         _, page = self.desk()
         page.command("goto 2 in 0")
         page.wait(current="2", resumes=False)
@@ -114,7 +114,7 @@ class BrokenOffFolder(DeskFolderTest):
 
     def test_kept(self):
         """As long as somebody keeps the night, that one starts `live` again."""
-        self.begun()
+        self.begin_night()
         _, page = self.desk()
         page.command("go")
         page.wait(current="1", waiting=0)
@@ -131,11 +131,11 @@ class Shown(DeskTest):
     @unittest.skipUnless(watches(), NO_WATCH)
     def test_other_source(self):
         """Who else sends on the night's universes stands in the bar, as long as it is heard."""
-        with receiving() as free:
+        with receiver_socket() as free:
             to = address_of(free)
-        _, address = self.begun("--grid", to=to)
+        _, address = self.begin("--grid", to=to)
         browser = Browser(self)
-        page = browser.opened(address)
+        page = browser.open_page(address)
         page.wait("!document.body.classList.contains('is-dead')")
         with socket.socket(socket.AF_INET, socket.SOCK_DGRAM) as other:
             strange = packet(1, {1: 7}, priority=150, cid=CID[:-1] + "2", name="House")
@@ -152,9 +152,9 @@ class Shown(DeskTest):
     @unittest.skipUnless(resumes(), NO_RESUME)
     def test_button(self):
         """A night that was broken off has a button that takes it up."""
-        desk, address = self.begun("--record", self.folder / "night.play")
+        desk, address = self.begin("--record", self.folder / "night.play")
         browser = Browser(self)
-        page, state = browser.opened(address), Page(self, address)
+        page, state = browser.open_page(address), Page(self, address)
         page.wait("!document.body.classList.contains('is-dead')")
         state.command("goto 2 in 0")
         state.wait(current="2", waiting=0)

@@ -17,10 +17,10 @@ from program import (
     FolderTest,
     ProgramTest,
     counts,
+    messages_in,
     packet,
     run,
     text,
-    told,
 )
 from restarts import moments, wait_until
 from tooling import stand_still
@@ -73,7 +73,8 @@ class Files(FolderTest):
         done = subprocess.run(
             [PROGRAM, "check", "-"], stdin=folder, capture_output=True, timeout=60
         )
-        self.assertEqual((5, b"", DEVICE_FAULT), (done.returncode, done.stdout, told(done.stderr)))
+        found = (done.returncode, done.stdout, messages_in(done.stderr))
+        self.assertEqual((5, b"", DEVICE_FAULT), found)
 
     def test_input_in_pieces(self):
         """A pipe that gives a few bytes at a time gives the same show."""
@@ -110,7 +111,7 @@ class Floods(FolderTest):
 
     SHOW = SHOW
 
-    def flooded(self, line, job, *words, **options):
+    def flood(self, line, job, *words, **options):
         """A run whose input is this line for ever."""
         flood = subprocess.Popen(["yes", line], stdout=subprocess.PIPE)
         words = [PROGRAM, job, self.show, *TO_NOBODY, *words]
@@ -123,9 +124,9 @@ class Floods(FolderTest):
 
     def test_endless_lines(self):
         """Of `play` line 10,000,001 is the last that is looked at."""
-        run = self.flooded("", "play", stdout=subprocess.PIPE, stderr=subprocess.PIPE)
+        run = self.flood("", "play", stdout=subprocess.PIPE, stderr=subprocess.PIPE)
         out, err = run.communicate(timeout=60)
-        err = told(err)
+        err = messages_in(err)
         self.assertEqual((4, b"", b"line 10000001 refused\n"), (run.returncode, out, err))
 
     def test_live_goes_on(self):
@@ -133,7 +134,7 @@ class Floods(FolderTest):
         for line in ("", "go", "jump"):
             with self.subTest(line):
                 record = self.folder / f"{line}.play"
-                night = self.flooded(
+                night = self.flood(
                     line,
                     "live",
                     "--record",
@@ -200,7 +201,7 @@ class Outputs(ProgramTest):
                 done = subprocess.run(
                     [PROGRAM, *words], input=stdin, stderr=subprocess.PIPE, timeout=60, **options
                 )
-                self.assertEqual((5, DEVICE_FAULT), (done.returncode, told(done.stderr)))
+                self.assertEqual((5, DEVICE_FAULT), (done.returncode, messages_in(done.stderr)))
 
     def test_full_output(self):
         with open("/dev/full", "wb") as full:
@@ -232,7 +233,7 @@ class Outputs(ProgramTest):
         done = subprocess.run(
             [PROGRAM, *words], capture_output=True, timeout=60, preexec_fn=lambda: os.close(0)
         )
-        self.assertEqual((5, DEVICE_FAULT), (done.returncode, told(done.stderr)))
+        self.assertEqual((5, DEVICE_FAULT), (done.returncode, messages_in(done.stderr)))
         self.assertEqual(b"", done.stdout)
 
     def test_closed_error_of_play(self):
@@ -279,9 +280,9 @@ class Memory(unittest.TestCase):
         if done.returncode == 127 or done.returncode in (-signal.SIGKILL, -signal.SIGSEGV):
             return "unstarted"
         if done.returncode == 6:
-            self.assertEqual((b"", b"memory\n"), (done.stdout, told(done.stderr)))
+            self.assertEqual((b"", b"memory\n"), (done.stdout, messages_in(done.stderr)))
             return "memory"
-        self.assertEqual((0, b""), (done.returncode, told(done.stderr)))
+        self.assertEqual((0, b""), (done.returncode, messages_in(done.stderr)))
         return "done"
 
     def test_want_of_memory(self):

@@ -8,7 +8,18 @@ import sys
 
 from expected import runs, watch as watches
 from preload import PreloadTest
-from program import CID, DEVICE_FAULT, PROGRAM, START, Outcome, counts, packet, run, text, told
+from program import (
+    CID,
+    DEVICE_FAULT,
+    PROGRAM,
+    START,
+    Outcome,
+    counts,
+    messages_in,
+    packet,
+    run,
+    text,
+)
 from test_listen import DATAGRAMS, THREE, Listener
 from test_live import without_moments
 from test_refused_lines import NUMBERED, UNKNOWN
@@ -33,16 +44,16 @@ class FailingCalls(ReceiverTest, PreloadTest):
         """`failures`: a call's name, the first and the last of its calls that fail, and the
         error."""
         words = " ".join(f"{call} {first} {last} {error}" for call, first, last, error in failures)
-        return self.preloaded(FAILS=words)
+        return self.library_environment(FAILS=words)
 
-    def failing(self, words, stdin, *failures):
+    def run_failing(self, words, stdin, *failures):
         """How a run ends; its input is a file."""
         return self.run_preloaded(words, stdin, self.environment(*failures))
 
     def plays(self, lines, *failures):
         """How `play` ends, and what came of its packets."""
         words = ["play", self.show, "--to", self.to, "--cid", CID]
-        return self.failing(words, text(*lines), *failures), self.came()
+        return self.run_failing(words, text(*lines), *failures), self.came()
 
 
 class Play(FailingCalls):
@@ -134,7 +145,7 @@ class Play(FailingCalls):
             )
             run.stdout.close()
             run.stdin.write(b"2500 tick\n")
-            self.assertEqual(DEVICE_FAULT, told(run.stderr.read()))
+            self.assertEqual(DEVICE_FAULT, messages_in(run.stderr.read()))
         self.assertEqual((5, FADE.packets[:2]), (run.returncode, self.came()))
 
     def test_input_cut(self):
@@ -152,19 +163,19 @@ class Prints(FailingCalls):
     """Jobs that only print: the writes of each fail in turn, and are interrupted."""
 
     def assertEachWriteFails(self, words, stdin, whole):
-        self.assertEqual(Outcome(0, whole, b""), self.failing(words, stdin))
+        self.assertEqual(Outcome(0, whole, b""), self.run_failing(words, stdin))
         self.assertEqual(
-            Outcome(0, whole, b""), self.failing(words, stdin, ("write", 1, 3, errno.EINTR))
+            Outcome(0, whole, b""), self.run_failing(words, stdin, ("write", 1, 3, errno.EINTR))
         )
         for write in range(1, 100):
-            outcome = self.failing(words, stdin, ("write", write, write, errno.EIO))
+            outcome = self.run_failing(words, stdin, ("write", write, write, errno.EIO))
             if outcome.status == 0:
                 break
             # Of the text it is not known how much went out.
             self.assertEqual((5, DEVICE_FAULT), (outcome.status, outcome.err))
             self.assertTrue(whole.startswith(outcome.out))
         self.assertEqual(whole, outcome.out)
-        self.assertEqual(b"", self.failing(words, stdin, ("write", 1, 99, errno.EIO)).out)
+        self.assertEqual(b"", self.run_failing(words, stdin, ("write", 1, 99, errno.EIO)).out)
         return write - 1
 
     def test_each_device_fails(self):
@@ -189,10 +200,10 @@ class Prints(FailingCalls):
         """Standard input: interrupted it is asked again, and else it is a fault."""
         whole = counts(12, 2, 1, 0, 2)
         for read in (1, 2):
-            outcome = self.failing(["check", "-"], S1, ("read", read, read + 2, errno.EINTR))
+            outcome = self.run_failing(["check", "-"], S1, ("read", read, read + 2, errno.EINTR))
             self.assertEqual(Outcome(0, whole, b""), outcome)
             for error in (errno.EIO, errno.EAGAIN):
-                outcome = self.failing(["check", "-"], S1, ("read", read, read, error))
+                outcome = self.run_failing(["check", "-"], S1, ("read", read, read, error))
                 self.assertEqual(Outcome(5, b"", DEVICE_FAULT), outcome)
 
     def test_watch(self):
@@ -204,16 +215,16 @@ class Prints(FailingCalls):
             moment = int(line.split()[0])
             printed[moment] = printed.get(moment, b"") + text(line)
         writes = list(printed.values())
-        self.assertEqual(Outcome(0, b"".join(writes), b""), self.failing(["watch", "1"], lines))
+        self.assertEqual(Outcome(0, b"".join(writes), b""), self.run_failing(["watch", "1"], lines))
         for call in ("read", "write"):
-            outcome = self.failing(["watch", "1"], lines, (call, 1, 3, errno.EINTR))
+            outcome = self.run_failing(["watch", "1"], lines, (call, 1, 3, errno.EINTR))
             self.assertEqual(Outcome(0, b"".join(writes), b""), outcome)
         for write in range(1, len(writes) + 1):
-            outcome = self.failing(["watch", "1"], lines, ("write", write, write, errno.EIO))
+            outcome = self.run_failing(["watch", "1"], lines, ("write", write, write, errno.EIO))
             self.assertEqual(Outcome(5, b"".join(writes[: write - 1]), DEVICE_FAULT), outcome)
         # The second read begins in the middle of the fourth line.
         for read, whole in ((1, 0), (2, 3)):
-            outcome = self.failing(["watch", "1"], lines, ("read", read, read, errno.EIO))
+            outcome = self.run_failing(["watch", "1"], lines, ("read", read, read, errno.EIO))
             self.assertEqual(Outcome(5, b"".join(writes[:whole]), DEVICE_FAULT), outcome)
 
     def test_script_cut(self):
@@ -228,7 +239,7 @@ class Prints(FailingCalls):
 
 
 class Listen(FailingCalls):
-    def heard(self, *failures):
+    def listen(self, *failures):
         listener = Listener(count=3, env=self.environment(*failures))
         self.addCleanup(listener.abandon)
         listener.send(*DATAGRAMS)
@@ -242,11 +253,11 @@ class Listen(FailingCalls):
                 for error in (errno.EIO, errno.ECONNREFUSED, errno.EAGAIN):
                     with self.subTest(call, n=n, error=errno.errorcode[error]):
                         out = b"".join(lines[: n - 1])
-                        self.assertEqual((5, out, DEVICE_FAULT), self.heard((call, n, n, error)))
+                        self.assertEqual((5, out, DEVICE_FAULT), self.listen((call, n, n, error)))
 
     def test_interrupted_calls(self):
         for call in ("recvfrom", "write"):
-            self.assertEqual((0, THREE, b""), self.heard((call, 1, 2, errno.EINTR)))
+            self.assertEqual((0, THREE, b""), self.listen((call, 1, 2, errno.EINTR)))
 
     def test_output_closed_in_the_middle(self):
         listener = Listener(count=3)
@@ -255,17 +266,17 @@ class Listen(FailingCalls):
         self.assertEqual(b"1 taken 0\n", listener.line())
         listener.child.stdout.close()
         listener.send(DATAGRAMS[1])
-        self.assertEqual(DEVICE_FAULT, told(listener.child.stderr.read()))
+        self.assertEqual(DEVICE_FAULT, messages_in(listener.child.stderr.read()))
         self.assertEqual(5, listener.child.wait(timeout=30))
 
 
 class Live(FailingCalls):
     WORDS = ("--cid", CID)
 
-    def lived(self, *failures, stdin=b"sub 1 FL\nend\n"):
+    def play_live(self, *failures, stdin=b"sub 1 FL\nend\n"):
         """How a night ends, without its moments, and what came of its packets."""
         words = ["live", self.show, "--to", self.to, *self.WORDS, "--end-with-input"]
-        status, out, err = self.failing(words, stdin, *failures)
+        status, out, err = self.run_failing(words, stdin, *failures)
         return status, without_moments(out), err, self.came()
 
     def test_each_send_fails(self):
@@ -273,7 +284,7 @@ class Live(FailingCalls):
         for error in NETWORK_ERRORS:
             for k in range(3):
                 with self.subTest(errno.errorcode[error], k=k):
-                    status, out, err, came = self.lived(("sendto", k + 1, k + 1, error))
+                    status, out, err, came = self.play_live(("sendto", k + 1, k + 1, error))
                     self.assertEqual((5, b"lost 1\n"), (status, err))
                     self.assertEqual(["ok"] * 3, [line for line in out if line == "ok"])
                     self.assertEqual(
@@ -286,7 +297,7 @@ class Live(FailingCalls):
     def test_interrupted_calls(self):
         for call in ("sendto", "write", "read", "epoll_wait"):
             with self.subTest(call):
-                status, out, err, came = self.lived((call, 1, 2, errno.EINTR))
+                status, out, err, came = self.play_live((call, 1, 2, errno.EINTR))
                 self.assertEqual((0, ["ok"] * 3, b""), (status, out, err))
                 self.assertEqual([TERMINATED] * 3, [each[OPTIONS] for each in came[-3:]])
 
@@ -294,7 +305,7 @@ class Live(FailingCalls):
         """A reply that cannot be written is told of once, no reply follows it, and the night goes
         on."""
         for write in (1, 2, 3):
-            status, out, err, came = self.lived(("write", write, write, errno.EIO))
+            status, out, err, came = self.play_live(("write", write, write, errno.EIO))
             self.assertEqual(
                 (0, ["ok"] * (write - 1), b"replies: device fault\n"), (status, out, err)
             )
@@ -302,9 +313,9 @@ class Live(FailingCalls):
 
     def test_reads_that_fail(self):
         """Nothing there yet is no fault; an input that cannot be read any more has ended."""
-        status, out, err, _ = self.lived(("read", 1, 5, errno.EAGAIN))
+        status, out, err, _ = self.play_live(("read", 1, 5, errno.EAGAIN))
         self.assertEqual((0, ["ok"] * 3, b""), (status, out, err))
-        status, out, err, _ = self.lived(("read", 1, 1, errno.EIO))
+        status, out, err, _ = self.play_live(("read", 1, 1, errno.EIO))
         self.assertEqual((0, ["ok"] * 2, b""), (status, out, err))
 
     def test_input_cut(self):
@@ -313,7 +324,7 @@ class Live(FailingCalls):
         typed = b"sub 1 FL\n"
         for length in range(len(typed)):
             with self.subTest(typed[:length]):
-                status, out, err, came = self.lived(stdin=typed[:length])
+                status, out, err, came = self.play_live(stdin=typed[:length])
                 line = typed[:length].decode()
                 reason = NUMBERED if line.startswith("sub") else UNKNOWN
                 refused = [f"line refused: {line}: {reason}"] if 0 < length < 8 else []
@@ -329,10 +340,11 @@ class Locks(FailingCalls):
         super().setUp()
         self.record = self.folder / "night.play"
 
-    def recorded(self, lines, failure, *more):
+    def record_night(self, lines, failure, *more):
         """How a night with a record ends, without its moments, and which locks it cannot make."""
         words = ["live", self.show, "--to", self.to, "--cid", CID, "--end-with-input"]
-        status, out, err = self.failing([*words, "--record", self.record, *more], lines, failure)
+        words = [*words, "--record", self.record, *more]
+        status, out, err = self.run_failing(words, lines, failure)
         missing = re.findall(rb"(?m)^(\w+): no lock can be made", err)
         return status, without_moments(out), missing
 
@@ -342,18 +354,19 @@ class Locks(FailingCalls):
         for first, last, missing in cases:
             with self.subTest(missing):
                 self.record.unlink(missing_ok=True)
-                status, out, told_of = self.recorded(b"go\n", ("flock", first, last, errno.ENOLCK))
+                failure = ("flock", first, last, errno.ENOLCK)
+                status, out, told_of = self.record_night(b"go\n", failure)
                 self.assertEqual((0, missing), (status, set(told_of)))
                 self.assertEqual(["ok"] * 3, [line for line in out if line == "ok"])
                 self.assertIn(b" go\n", self.record.read_bytes())
 
     def test_spare(self):
         """None stands by, since it could not tell who plays."""
-        self.recorded(b"go\n", ("flock", 0, 0, 0))
+        self.record_night(b"go\n", ("flock", 0, 0, 0))
         head = b"".join(self.record.read_bytes().splitlines(keepends=True)[:2])
         self.record.write_bytes(head)
         refused = ("flock", 1, 1000, errno.ENOLCK), "--resume", "--spare"
-        self.assertEqual((5, []), self.recorded(b"", *refused)[:2])
+        self.assertEqual((5, []), self.record_night(b"", *refused)[:2])
         self.assertEqual(head, self.record.read_bytes())
 
 
@@ -387,7 +400,8 @@ class Network(FailingCalls):
         words = [*own_network(self), PROGRAM, "play", self.show, "--to", "192.0.2.1", "--cid", CID]
         done = subprocess.run(words, input=b"0 tick\n25 tick\n", capture_output=True, timeout=60)
         out = b"0 live 1:x0\n25 live 1:x1\n"
-        self.assertEqual((5, out, b"lost 2\n"), (done.returncode, done.stdout, told(done.stderr)))
+        found = (done.returncode, done.stdout, messages_in(done.stderr))
+        self.assertEqual((5, out, b"lost 2\n"), found)
 
     def test_network_that_comes(self):
         """A night that begins without its network goes on once it is there."""

@@ -13,7 +13,7 @@ from program import CID, PROGRAM, run
 from restarts import PATIENCE, head, moments, sent_by, universe_of, wait_until
 from test_restart import SHOW, ByTheScript, RestartTest
 from tooling import open_files
-from wire import OPTIONS, SLOT_1, TERMINATED, address_of, receiving
+from wire import OPTIONS, SLOT_1, TERMINATED, address_of, receiver_socket
 
 BACKUP = CID[:-1] + "2"
 # Of a backup; the main has 100.
@@ -53,7 +53,7 @@ class FollowTest(RestartTest):
         main.begin()
         main.light(2)
         backup = self.backup(main.record, **kept)
-        main.typed(b"".join(lines))
+        main.type_commands(b"".join(lines))
         self.follows(main, backup)
         return main, backup
 
@@ -66,7 +66,7 @@ class FollowTest(RestartTest):
         )
         backup.light(2)
 
-    def written(self, *lines, **kept):
+    def write_and_follow(self, *lines, **kept):
         """A record that the test writes, and a night that follows it."""
         record = Path(tempfile.mkdtemp(dir=self.folder), "main.play")
         record.write_bytes(head(SHOW))
@@ -77,19 +77,19 @@ class FollowTest(RestartTest):
         with open(record, "ab", buffering=0) as file:
             file.write(b"".join(line.encode() + b"\n" for line in lines))
 
-    def meant(self, night):
+    def meant_packets(self, night):
         """What the record of a backup means, as packets of its own."""
         return list(sent_by(SHOW, night.record.read_bytes(), BACKUP, PRIORITY))
 
     def assertStream(self, night):
         """What was heard of a backup is the end of what its record means. Answers that end."""
-        meant = self.meant(night)[-len(night.heard) :]
+        meant = self.meant_packets(night)[-len(night.heard) :]
         self.assertEqual([each.packet for each in meant], [each.packet for each in night.heard])
         return meant
 
     def assertTold(self, night, *lines):
         """Answers what was printed and told by a night that does not run any more."""
-        ((out, err),) = night.told()
+        ((out, err),) = night.outputs()
         for line in lines:
             self.assertRegex(err, rb"(?m)^" + line)
         return out, err
@@ -105,7 +105,7 @@ class Leads(FollowTest):
         main.type(b"sub 1 50\ngo\n")
         backup.light(40)
         self.assertEqual(0, main.end())
-        self.assertEqual(0, backup.ended())
+        self.assertEqual(0, backup.end_status())
         led = slots_by_place(sent_by(SHOW, main.record.read_bytes()))
         heard = slots_by_place(self.assertStream(backup))
         self.assertLess(60, len(heard))
@@ -124,7 +124,7 @@ class Leads(FollowTest):
         """The record is looked at so often that both lights move as one."""
         main, backup = self.both(b"go\n")
         backup.light(30)
-        self.assertEqual((0, 0), (main.end(), backup.ended()))
+        self.assertEqual((0, 0), (main.end(), backup.end_status()))
         sent = sent_by(SHOW, main.record.read_bytes())
         came = {each.moment: heard.at for each, heard in zip(sent, main.heard)}
         meant = self.assertStream(backup)
@@ -138,7 +138,7 @@ class Leads(FollowTest):
         backup.type(b"go\nend\nwhere\nhelp\n\n  \ntake 2\ngo")
         backup.light(10)
         main.end()
-        backup.ended()
+        backup.end_status()
         out, err = self.assertTold(backup)
         refused = [line for line in err.splitlines(True) if line.startswith(b"line refused: ")]
         self.assertEqual(
@@ -152,15 +152,15 @@ class Leads(FollowTest):
         """A main whose lines come is followed for longer than it may be silent."""
         main, backup = self.both(b"go\n", silence=1000)
         time.sleep(1.5)
-        main.typed(b"sub 1 50\n")
+        main.type_commands(b"sub 1 50\n")
         self.follows(main, backup)
-        self.assertEqual((0, 0), (main.end(), backup.ended()))
+        self.assertEqual((0, 0), (main.end(), backup.end_status()))
         self.assertTold(backup, rb"0:00:(?!00)\d\d the main has ended the night\n")
         self.assertEqual(1, len({lines_of(each.record) for each in (main, backup)}))
 
     def test_lock(self):
         """No other console begins under the CID of a backup that follows."""
-        _, backup = self.written("0 tick")
+        _, backup = self.write_and_follow("0 tick")
         words = ["play", backup.show, "--to", self.to, "--cid", BACKUP]
         second = subprocess.run(
             [PROGRAM, *words], input=b"0 tick\n", capture_output=True, timeout=PATIENCE
@@ -170,7 +170,7 @@ class Leads(FollowTest):
 
     def test_old_lines(self):
         """What stood in the record before is taken up, and not sent."""
-        record, backup = self.written("0 tick", "25 tick", "30 goto 2 in 0", "50 tick")
+        record, backup = self.write_and_follow("0 tick", "25 tick", "30 goto 2 in 0", "50 tick")
         time.sleep(0.3)
         self.assertEqual([], backup.heard)
         self.write(record, "75 tick")
@@ -191,7 +191,7 @@ class Leads(FollowTest):
 
     def test_cut_line(self):
         """A line waits for its LF, and may be cut off by a main that is taken up."""
-        record, backup = self.written("0 tick")
+        record, backup = self.write_and_follow("0 tick")
         for part in (b"25 ti", b"ck", b"\n30 go"):
             time.sleep(0.1)
             with open(record, "ab", buffering=0) as file:
@@ -207,7 +207,7 @@ class Leads(FollowTest):
 
     def test_comment(self):
         """A comment says that lines are missing: it is told, and left out."""
-        record, backup = self.written("0 tick")
+        record, backup = self.write_and_follow("0 tick")
         self.write(record, "! 3 lines dropped", "25 tick")
         backup.light(2)
         backup.kill()
@@ -216,7 +216,7 @@ class Leads(FollowTest):
     def test_other_line(self):
         """A line that no night gives ends the backup, and is named."""
         for line in ("25 tock", "20 tick", "25 " + "0" * 300, "x" * 5000):
-            record, backup = self.written("0 tick", "25 tick")
+            record, backup = self.write_and_follow("0 tick", "25 tick")
             self.write(record, line)
             self.assertEqual(4, backup.processes[-1].wait(PATIENCE))
             self.assertTold(backup, rb"record: line 5 is none that live gives\n")
@@ -230,7 +230,7 @@ class Leads(FollowTest):
         main.type(b"master 50\n")
         backup.light(4)
         self.assertEqual(0, main.end())
-        self.assertEqual(0, backup.ended())
+        self.assertEqual(0, backup.end_status())
         self.assertIn(b" master 50\n", backup.record.read_bytes())
         self.assertStream(backup)
 
@@ -347,16 +347,16 @@ class Silent(FollowTest):
     def test_gone(self):
         """A record that is deleted, that is replaced, or that lost lines ends the following."""
         def replace(name):
-            os.replace(self.copied(name), name)
+            os.replace(self.copy(name), name)
 
         for lose in (os.remove, replace, lambda name: os.truncate(name, len(head(SHOW)) + 7)):
-            record, backup = self.written("0 tick", "25 tick")
+            record, backup = self.write_and_follow("0 tick", "25 tick")
             lose(record)
             backup.tells(rb"0:00:\d\d the main's record is gone")
             self.assertEqual(0, backup.end())
             self.assertTold(backup, rb"0:00:\d\d the main's record is gone: goes on by itself\n")
 
-    def copied(self, name):
+    def copy(self, name):
         """A copy of a file."""
         copy = Path(f"{name}.copy")
         copy.write_bytes(name.read_bytes())
@@ -393,7 +393,7 @@ class Silent(FollowTest):
 class Refused(FollowTest):
     def assertRefused(self, record, fault, status=4, cid=BACKUP, patience=200):
         """Nothing is sent, and no record is begun."""
-        with receiving() as receiver:
+        with receiver_socket() as receiver:
             own = self.folder / "own.play"
             words = [
                 "live",

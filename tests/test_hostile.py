@@ -11,8 +11,8 @@ import inputs
 import nights
 from expected import desk, receiver, runs, stream, typed
 from hostile import Runner, first_failure
-from program import CID, told as without_remark
-from wire import address_of, received, receiving
+from program import CID, messages_in as without_remark
+from wire import address_of, datagrams_at, receiver_socket
 from worked import S1
 
 CASES, SEED = 20_000, 1
@@ -58,23 +58,23 @@ class Hostile(unittest.TestCase):
 class HostileLive(unittest.TestCase):
     """A night by the clock, in which whatever is typed."""
 
-    def typed(self, r):
+    def random_lines(self, r):
         """Lines by chance, with keys among them; none of them ends the night, or is too long for
         it."""
         while True:
             words = r.choice([inputs.command(r)] * 9 + [["where"], ["help"], ["?"]])
-            line = changes.changed(
-                r, inputs.spelled(r, words).encode("latin-1"), changes.OF_TEXTS, 3
+            line = changes.with_changes(
+                r, inputs.spelling(r, words).encode("latin-1"), changes.OF_TEXTS, 3
             )
             if r.random() < 0.2:
                 place = r.randrange(len(line) + 1)
                 line = line[:place] + r.choice(inputs.KEYS) + line[place:]
             for each in line.split(b"\n"):
-                asked = typed.asked(each, 0)
+                asked = typed.request_in(each, 0)
                 if len(each) < 150 and getattr(asked, "what", "") not in (typed.END, typed.LEAVE):
                     yield each
 
-    def left(self, r, lines):
+    def play_lines(self, r, lines):
         """What a night left in which these lines are typed in pieces, and the packets that
         came."""
         text = b"".join(line + b"\n" for line in lines)
@@ -83,18 +83,18 @@ class HostileLive(unittest.TestCase):
             part = r.randrange(1, 400)
             parts.append((0.02, text[:part]))
             text = text[part:]
-        with receiving() as socket:
+        with receiver_socket() as socket:
             left = nights.play_night(nights.Typed(S1, tuple(parts)), CID, address_of(socket))
-            return left, tuple(received(socket))
+            return left, tuple(datagrams_at(socket))
 
     def test_cases(self):
         """The record is the night: what is shown and sent is what the pages say of it. It has the
         lines that are commands, in order, and why others are none is told."""
         r = random.Random(SEED)
-        lines = [line for line, _ in zip(self.typed(r), range(400))]
-        left, came = self.left(r, lines)
+        lines = [line for line, _ in zip(self.random_lines(r), range(400))]
+        left, came = self.play_lines(r, lines)
         self.assertEqual(0, left.status)
-        found = [each for each in (typed.asked(line, 0) for line in lines) if each]
+        found = [each for each in (typed.request_in(line, 0) for line in lines) if each]
         orders = [
             each.text
             for each in found
@@ -105,18 +105,18 @@ class HostileLive(unittest.TestCase):
             [*orders, b"master 0", b"end"], [line for line in given if line != b"tick"]
         )
         shown, helps = nights.without_help(left.shown)
-        self.assertEqual(nights.expected(S1, left.record, shown), shown)
+        self.assertEqual(nights.expected_lines(S1, left.record, shown), shown)
         questions = [each.what for each in found if isinstance(each, typed.Asked)]
         self.assertEqual(questions.count(typed.HELP), helps)
-        self.assertEqual(questions.count(typed.WHERE), len(nights.asked(shown)))
+        self.assertEqual(questions.count(typed.WHERE), len(nights.where_places(shown)))
         self.assertEqual(runs.play(S1, b"\n".join(left.record)).packets, came)
-        self.assertEqual(list(self.told(lines)), without_remark(left.err).decode().splitlines())
+        self.assertEqual(list(self.refusals(lines)), without_remark(left.err).decode().splitlines())
 
-    def told(self, lines):
+    def refusals(self, lines):
         """What is told of lines, none of which is too long."""
         for line in lines:
-            asked = typed.asked(line, 0)
+            asked = typed.request_in(line, 0)
             if isinstance(asked, str):
-                yield f"line refused: {typed.shown(line)}: {asked}"
+                yield f"line refused: {typed.shown_line(line)}: {asked}"
             elif asked and asked.has_keys:
                 yield "keys ignored"

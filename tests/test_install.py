@@ -114,7 +114,7 @@ class Install(CopiedLayout):
         """The program runs as it does here; nothing but its files is there, and nothing is
         built."""
         out = self.install(self.prefix)
-        self.assertEqual([], self.asked())
+        self.assertEqual([], self.requests())
         self.assertWhole()
         for name in STARTERS:
             self.assertIn(f"installed {self.prefix / name}\n", out)

@@ -8,13 +8,13 @@ import subprocess
 import time
 from pathlib import Path
 
-from program import CID, DEVICE_FAULT, PROGRAM, UNFIT, ProgramTest, packet, run, told
+from program import CID, DEVICE_FAULT, PROGRAM, UNFIT, ProgramTest, messages_in, packet, run
 from tooling import stand_still
 from wire import free_port
-from worked import heard, look_one, with_examples
+from worked import listen_example, look_one, with_examples
 
 LOOK_ONE = look_one()
-DATAGRAMS, THREE = heard("listen_three")
+DATAGRAMS, THREE = listen_example("listen_three")
 
 
 def is_bound(host, port):
@@ -58,7 +58,7 @@ class Listener:
         """Waits for the run's end: its status, the rest of its output, and what it told."""
         self.sender.close()
         out, err = self.child.communicate(timeout=30)
-        err = told(err)
+        err = messages_in(err)
         return self.child.returncode, out, err
 
     def abandon(self):
@@ -77,7 +77,7 @@ class Listen(ProgramTest):
         return started
 
     def assertExample(self, name):
-        datagrams, out = heard(name)
+        datagrams, out = listen_example(name)
         self.assertHears(out, datagrams)
 
     def assertHears(self, out, datagrams, **options):
@@ -206,5 +206,5 @@ class Listen(ProgramTest):
                     time.sleep(0.002)
                 with socket.socket(socket.AF_INET, socket.SOCK_DGRAM) as sender:
                     sender.sendto(LOOK_ONE, ("127.0.0.1", port))
-                self.assertEqual(DEVICE_FAULT, told(child.stderr.read()))
+                self.assertEqual(DEVICE_FAULT, messages_in(child.stderr.read()))
             self.assertEqual(5, child.returncode)

@@ -11,10 +11,21 @@ import time
 from pathlib import Path
 
 from machine import Took, in_time, took
-from program import CID, LIVE_NAME, PROGRAM, START, Outcome, behind_head, packet, run, text, told
+from program import (
+    CID,
+    LIVE_NAME,
+    PROGRAM,
+    START,
+    Outcome,
+    behind_head,
+    messages_in,
+    packet,
+    run,
+    text,
+)
 from tooling import open_files, wait_for
 from wire import OPTIONS, SEQUENCE, SLOT_1, TERMINATED, ReceiverTest
-from wire import address_of, received, receiving, socket_flags, terminal
+from wire import address_of, datagrams_at, receiver_socket, socket_flags, terminal
 from worked import S1
 
 OTHER = CID[:-1] + "2"
@@ -47,7 +58,7 @@ class LiveTest(ReceiverTest):
         ends = [] if holds else ["--end-with-input"]
         return ["live", self.show, "--to", to or self.to, "--cid", cid, *ends, *options]
 
-    def started(self, *options, preexec_fn=None, cid=CID, to=None, holds=False, **pipes):
+    def start(self, *options, preexec_fn=None, cid=CID, to=None, holds=False, **pipes):
         """A program that is to play a night; its input and its outputs are pipes, unless others
         are given."""
         pipes = dict.fromkeys(("stdin", "stdout", "stderr"), subprocess.PIPE) | pipes
@@ -79,10 +90,10 @@ class LiveTest(ReceiverTest):
         missing = 1000 * seconds - 25 * len(ticks)
         in_time(self.between(0, ticks[-1])._replace(ms=missing), MISSED, "ticks that did not come")
 
-    def begun(self, *options, **kept):
+    def begin_night(self, *options, **kept):
         """A night that has begun; what it told at its start was read, where standard error is a
         pipe."""
-        night = self.started(*options, **kept)
+        night = self.start(*options, **kept)
         if night.stderr:
             watch = threading.Timer(NEVER, night.kill)
             watch.start()
@@ -93,13 +104,13 @@ class LiveTest(ReceiverTest):
             self.assertIsNotNone(START.fullmatch(start), start)
         return night
 
-    def typed(self, night, *parts, pause=0.1):
+    def type_in(self, night, *parts, pause=0.1):
         for part in parts:
             night.stdin.write(part)
             night.stdin.flush()
             time.sleep(pause)
 
-    def told(self, night, line, reply="ok", *others, pause=0.2):
+    def type_line(self, night, line, reply="ok", *others, pause=0.2):
         """Types a line, and waits for its reply, what is shown behind it, and then for some
         ticks."""
         night.stdin.write(line)
@@ -107,10 +118,10 @@ class LiveTest(ReceiverTest):
             self.assertEqual([shown], without_moments(night.stdout.readline()))
         time.sleep(pause)
 
-    def ended(self, night):
+    def end_night(self, night):
         """How a night ended, once its input is closed."""
         out, err = night.communicate(timeout=30)
-        err = told(err)
+        err = messages_in(err)
         return Outcome(night.returncode, out, err)
 
     def assertTerminated(self, came, is_left=False):
@@ -125,10 +136,10 @@ class LiveTest(ReceiverTest):
 class Live(LiveTest):
     def test_night(self):
         """Commands through a pipe: replies without ticks, numbered datagrams, the end."""
-        night = self.begun()
+        night = self.begin_night()
         for line in (b"sub 1 FL\n", b"master 50\n", b"sub 1 0\n", b"end\n"):
-            self.told(night, line)
-        status, out, err = self.ended(night)
+            self.type_line(night, line)
+        status, out, err = self.end_night(night)
         self.assertEqual((0, ["ok"], b""), (status, without_moments(out), err))
         came = self.came()
         self.assertEqual([k % 256 for k in range(len(came))], [each[SEQUENCE] for each in came])
@@ -158,7 +169,7 @@ class Live(LiveTest):
         """The night ends, and nobody is told that the light holds."""
         for lines in (b"end\n", b"sub 1 FL\nend\n", b"leave\n", b"sub 1 FL\nend"):
             with self.subTest(lines):
-                night = self.begun(holds=True)
+                night = self.begin_night(holds=True)
                 typed = time.monotonic()
                 _, err = night.communicate(lines, timeout=30)
                 if err.startswith(b"input ended: the light holds; "):
@@ -170,8 +181,8 @@ class Live(LiveTest):
 
     def test_closed_input_holds(self):
         """The end of the input ends no night: the light holds, and it is told once how it ends."""
-        night = self.begun(holds=True)
-        self.typed(night, b"sub 1 FL")
+        night = self.begin_night(holds=True)
+        self.type_in(night, b"sub 1 FL")
         night.stdin.close()
         line = night.stderr.readline()
         self.assertTrue(line.startswith(b"input ended: the light holds; SIGTERM "), line)
@@ -196,7 +207,7 @@ class Live(LiveTest):
         theirs = os.open(fifo, os.O_RDONLY | os.O_NONBLOCK)
         ours = os.open(fifo, os.O_WRONLY)
         os.set_blocking(theirs, True)
-        night = self.begun(stdin=theirs, holds=True)
+        night = self.begin_night(stdin=theirs, holds=True)
         os.close(theirs)
         os.write(ours, b"sub 1 FL\n")
         self.assertEqual(["ok"], without_moments(night.stdout.readline()))
@@ -229,10 +240,10 @@ class Live(LiveTest):
         alone."""
         for word, is_left in ((b"end\n", False), (b"Leave ! to the backup\n", True)):
             with self.subTest(word):
-                night = self.begun()
-                self.told(night, b"sub 1 FL\n", pause=0.3)
+                night = self.begin_night()
+                self.type_line(night, b"sub 1 FL\n", pause=0.3)
                 night.stdin.write(word)
-                self.ended(night)
+                self.end_night(night)
                 came = self.came()
                 self.assertTerminated(came, is_left)
                 levels = [each[SLOT_1] for each in came if not each[OPTIONS] & TERMINATED]
@@ -253,23 +264,23 @@ class Live(LiveTest):
         )
 
     def test_bytes_one_by_one(self):
-        night = self.begun()
-        self.typed(night, *(bytes([byte]) for byte in b"sub 1 FL\n"), pause=0.03)
+        night = self.begin_night()
+        self.type_in(night, *(bytes([byte]) for byte in b"sub 1 FL\n"), pause=0.03)
         self.assertEqual(["ok"], without_moments(night.stdout.readline()))
-        self.typed(night, b"en", b"d\n", pause=0.2)
-        self.assertEqual(["ok", "ok"], without_moments(self.ended(night).out))
+        self.type_in(night, b"en", b"d\n", pause=0.2)
+        self.assertEqual(["ok", "ok"], without_moments(self.end_night(night).out))
         came = self.came()
         self.assertEqual({0, 128}, {each[SLOT_1] for each in came[:-3]})
 
     def test_fade(self):
         """A fade of two seconds is seen in the levels, with every step upwards."""
         self.show.write_bytes(text("CUE 1", "UP 2", "CHAN 1@FL", "PATCH 1 1<1@FL"))
-        night = self.begun()
+        night = self.begin_night()
         typed = time.monotonic()
-        self.told(night, b"go\n", "ok", "cue 1", pause=1.0)
+        self.type_line(night, b"go\n", "ok", "cue 1", pause=1.0)
         half, stretch = self.came(wait=0), took(typed)
         time.sleep(1.3)
-        self.ended(night)
+        self.end_night(night)
         came = half + self.came()
         self.assertTerminated(came)
         levels = [each[SLOT_1] for each in came[:-7]]
@@ -285,9 +296,9 @@ class Live(LiveTest):
         """Ticks are 23 ms apart at least, and come on a grid of 25 ms as far as the machine lets
         them."""
         record = self.folder / "night.play"
-        night = self.begun("--record", record)
+        night = self.begin_night("--record", record)
         time.sleep(2)
-        self.ended(night)
+        self.end_night(night)
         lines = [line.split() for line in behind_head(record.read_bytes())]
         ticks = [int(moment) for moment, *words in lines if words == ["tick"]]
         gaps = [b - a for a, b in zip(ticks, ticks[1:])]
@@ -303,12 +314,12 @@ class Live(LiveTest):
         self.show.write_bytes(b"PATCH 1 1<1@FL\n" + cues.encode())
         record, printed = self.folder / "night.play", self.folder / "replies"
         with open(printed, "wb") as replies:
-            night = self.begun("--record", record, stdout=replies)
+            night = self.begin_night("--record", record, stdout=replies)
         night.stdin.write(b"goto 1\n" * 580)
         while record.read_bytes().count(b"goto") < 580:
             self.assertIsNone(night.poll())
             time.sleep(0.1)
-        self.ended(night)
+        self.end_night(night)
         shown = collections.Counter(without_moments(printed.read_bytes()))
         moves = {f"cue {n}": 580 for n in range(1, 2001)}
         self.assertEqual({"ok": 582} | moves, shown)
@@ -326,9 +337,9 @@ class Live(LiveTest):
         """`play` of the record sends the same datagrams, byte for byte and in order, and prints
         the same replies."""
         record = self.folder / "night.play"
-        night = self.begun("--record", record, "--priority", "150", "--base", "7")
-        self.typed(night, b"go\n", b"nonsense\nsub 1 30\n", b"  MASTER H80 ! down\n", b"back\n")
-        outcome = self.ended(night)
+        night = self.begin_night("--record", record, "--priority", "150", "--base", "7")
+        self.type_in(night, b"go\n", b"nonsense\nsub 1 30\n", b"  MASTER H80 ! down\n", b"back\n")
+        outcome = self.end_night(night)
         refused = b"line refused: nonsense: no such command; help lists the commands\n"
         self.assertEqual((0, refused), (outcome.status, outcome.err))
         came = self.came()
@@ -367,13 +378,13 @@ class Live(LiveTest):
         for replaced in (False, True):
             with self.subTest(replaced=replaced), open(record, "wb") as held:
                 fcntl.flock(held, fcntl.LOCK_EX)
-                night = self.started("--record", record)
+                night = self.start("--record", record)
                 wait_for(lambda: record in open_files(night.pid), "the record is open")
                 record.unlink()
                 if replaced:
                     record.touch()
                 held.close()
-                self.assertEqual(Outcome(5, b"", b"device fault\n"), self.ended(night))
+                self.assertEqual(Outcome(5, b"", b"device fault\n"), self.end_night(night))
                 self.assertEqual([], self.came())
 
     def test_record_on_a_full_disk(self):
@@ -389,13 +400,13 @@ class Live(LiveTest):
         """A terminal is read as a pipe is; its end of input, control-D, ends a night that ends
         so."""
         ours, theirs = terminal(self)
-        night = self.begun(stdin=theirs)
+        night = self.begin_night(stdin=theirs)
         os.close(theirs)
         os.write(ours, b"sub 1 FL\n")
         self.assertEqual(["ok"], without_moments(night.stdout.readline()))
         time.sleep(0.2)
         os.write(ours, b"\x04")
-        outcome = self.ended(night)
+        outcome = self.end_night(night)
         os.close(ours)
         told = without_moments(outcome.out)
         self.assertEqual((0, b"", ["ok", "ok"]), (outcome.status, outcome.err, told))
@@ -407,7 +418,7 @@ class Live(LiveTest):
         for ends in (True, False):
             with self.subTest(ends=ends):
                 ours, theirs = terminal(self)
-                night = self.begun(stdin=theirs, holds=True, preexec_fn=ignore_hang_up)
+                night = self.begin_night(stdin=theirs, holds=True, preexec_fn=ignore_hang_up)
                 os.close(theirs)
                 for _ in range(2):
                     os.write(ours, b"\x04")
@@ -416,7 +427,7 @@ class Live(LiveTest):
                 self.assertEqual(["ok"], without_moments(night.stdout.readline()))
                 if ends:
                     os.write(ours, b"end\n")
-                    outcome = self.ended(night)
+                    outcome = self.end_night(night)
                     os.close(ours)
                     self.assertEqual((0, b""), (outcome.status, outcome.err))
                 else:
@@ -427,14 +438,14 @@ class Live(LiveTest):
                     time.sleep(0.3)
                     self.assertIsNone(night.poll())
                     night.terminate()
-                    self.assertEqual((-signal.SIGTERM, b"", b""), self.ended(night))
+                    self.assertEqual((-signal.SIGTERM, b"", b""), self.end_night(night))
 
     def test_input_from_a_file(self):
         """A file's lines are there at once, and so is its end."""
         typed = self.folder / "typed"
         typed.write_bytes(b"sub 1 FL\nmaster 50\n" * 1000)
         with open(typed, "rb") as stdin:
-            outcome = self.ended(self.begun(stdin=stdin))
+            outcome = self.end_night(self.begin_night(stdin=stdin))
         self.assertEqual((0, b""), (outcome.status, outcome.err))
         self.assertEqual(["ok"] * 2002, without_moments(outcome.out))
         self.assertTerminated(self.came())
@@ -450,8 +461,8 @@ class Live(LiveTest):
     def test_socket_does_not_block(self):
         """A packet that would have to wait is lost, and the night does not wait: so the system
         says of each socket."""
-        night = self.begun()
-        self.told(night, b"back\n", "refused AtStart")
+        night = self.begin_night()
+        self.type_line(night, b"back\n", "refused AtStart")
         flags = socket_flags(night.pid)
         self.assertTrue(flags)
         self.assertEqual([], [each for each in flags if not each & os.O_NONBLOCK])
@@ -484,7 +495,7 @@ class Live(LiveTest):
             capture_output=True,
             timeout=30,
         )
-        self.assertEqual((5, b"device fault\n"), (night.returncode, told(night.stderr)))
+        self.assertEqual((5, b"device fault\n"), (night.returncode, messages_in(night.stderr)))
 
     def test_two_consoles(self):
         """Two nights into one `listen`: the one of priority 150 leads."""
@@ -495,14 +506,14 @@ class Live(LiveTest):
         self.addCleanup(listen.communicate)
         self.addCleanup(listen.kill)
         at = listen.stderr.readline().split()[2].decode()
-        main = self.begun("--priority", "150", to=at)
-        self.told(main, b"sub 1 50\n")
-        backup = self.begun("--priority", "100", cid=OTHER, to=at)
-        self.told(backup, b"sub 1 FL\n")
+        main = self.begin_night("--priority", "150", to=at)
+        self.type_line(main, b"sub 1 50\n")
+        backup = self.begin_night("--priority", "100", cid=OTHER, to=at)
+        self.type_line(backup, b"sub 1 FL\n")
         # The last of them keep the streams alive.
         printed = listen.communicate(timeout=30)[0].decode().splitlines()
-        self.ended(main)
-        self.ended(backup)
+        self.end_night(main)
+        self.end_night(backup)
         self.assertEqual(21, len(printed))
         self.assertEqual([], [line for line in printed[:-1] if " taken " not in line])
         # Submaster 1 is 128, and 128 of 255 makes it 64.
@@ -517,10 +528,10 @@ class Lock(LiveTest):
     def test_second_console(self):
         """However the CID is spelled, it does not begin: nothing is sent, and no record is
         made."""
-        first, record = self.begun(), self.folder / "night.play"
-        self.told(first, b"back\n", "refused AtStart")
+        first, record = self.begin_night(), self.folder / "night.play"
+        self.type_line(first, b"back\n", "refused AtStart")
         self.came()
-        with receiving() as other:
+        with receiver_socket() as other:
             for cid in self.SPELLINGS:
                 with self.subTest(cid):
                     words = self.words("--record", record, cid=cid, to=address_of(other))
@@ -532,27 +543,27 @@ class Lock(LiveTest):
                     self.assertTrue(
                         remark.startswith(b"another console on this machine sends under this CID")
                     )
-                    self.assertEqual([], received(other))
+                    self.assertEqual([], datagrams_at(other))
             self.assertFalse(record.exists())
             outcome = run(*self.words(cid=OTHER, to=address_of(other)), stdin=b"")
             self.assertEqual((0, b""), (outcome.status, outcome.err))
-        self.assertEqual((0, b""), (self.ended(first).status, b""))
+        self.assertEqual((0, b""), (self.end_night(first).status, b""))
 
     def test_play(self):
         """`play` holds it too, and does not begin beside another; one after the other, both
         play."""
         words = ["play", self.show, "--to", self.to, "--cid", CID]
-        first = self.begun()
-        self.told(first, b"back\n", "refused AtStart")
-        with receiving() as other:
+        first = self.begin_night()
+        self.type_line(first, b"back\n", "refused AtStart")
+        with receiver_socket() as other:
             words_elsewhere = ["play", self.show, "--to", address_of(other), "--cid", CID]
             second = subprocess.run(
                 [PROGRAM, *words_elsewhere], input=b"0 tick\n", capture_output=True, timeout=30
             )
             self.assertEqual(5, second.returncode)
             self.assertIn(b"another console on this machine sends under this CID", second.stderr)
-            self.assertEqual([], received(other))
-        self.assertEqual(0, self.ended(first).status)
+            self.assertEqual([], datagrams_at(other))
+        self.assertEqual(0, self.end_night(first).status)
         playing = subprocess.Popen(
             [PROGRAM, *words], stdin=subprocess.PIPE, stdout=subprocess.PIPE
         )
@@ -569,8 +580,8 @@ class Lock(LiveTest):
     def test_console_that_died(self):
         """The lock is free at once, also where the one that held it was killed."""
         for _ in range(3):
-            night = self.begun()
-            self.told(night, b"back\n", "refused AtStart", pause=0)
+            night = self.begin_night()
+            self.type_line(night, b"back\n", "refused AtStart", pause=0)
             night.kill()
             night.wait()
 
@@ -581,11 +592,11 @@ class Lock(LiveTest):
         lock = folder / f"{OTHER.replace('-', '')}.lock"
         with open(lock, "wb") as held:
             fcntl.flock(held, fcntl.LOCK_EX)
-            night = self.started(cid=OTHER)
+            night = self.start(cid=OTHER)
             wait_for(lambda: lock in open_files(night.pid), "the lock is asked for")
             time.sleep(0.2)
             self.assertEqual([], self.came(wait=0))
-        self.assertEqual(0, self.ended(night).status)
+        self.assertEqual(0, self.end_night(night).status)
         self.assertTerminated(self.came())
 
     def test_folder_that_is_a_link(self):
@@ -611,4 +622,4 @@ class Lock(LiveTest):
             env={**os.environ, "XDG_RUNTIME_DIR": str(runtime)},
         )
         without_lock = b"cid: no lock can be made, so a second console of this CID would begin\n"
-        self.assertEqual((0, without_lock), (done.returncode, told(done.stderr)))
+        self.assertEqual((0, without_lock), (done.returncode, messages_in(done.stderr)))

@@ -25,7 +25,7 @@ class Signals(LiveTest):
         self.env = os.environ | {"CUEPLAYER": str(PROGRAM)}
 
     def night(self, **options):
-        return self.begun(holds=True, **options)
+        return self.begin_night(holds=True, **options)
 
     def lit(self):
         """The level of slot 1 in the packets of a second that begins now."""
@@ -36,7 +36,7 @@ class Signals(LiveTest):
     def test_signals_of_a_terminal(self):
         """The light stays, the next command is taken, and an `end` ends the night."""
         night = self.night()
-        self.told(night, b"sub 1 FL\n")
+        self.type_line(night, b"sub 1 FL\n")
         for each in (
             signal.SIGINT,
             signal.SIGQUIT,
@@ -47,14 +47,14 @@ class Signals(LiveTest):
         ):
             night.send_signal(each)
         self.assertEqual({128}, self.lit())
-        self.told(night, b"sub 1 50\n")
-        self.told(night, b"end\n")
+        self.type_line(night, b"sub 1 50\n")
+        self.type_line(night, b"end\n")
         self.assertEqual((0, b""), (night.wait(timeout=30), night.stderr.read()))
         self.assertTerminated(self.came())
 
     def test_termination(self):
         night = self.night()
-        self.told(night, b"sub 1 FL\n")
+        self.type_line(night, b"sub 1 FL\n")
         night.send_signal(signal.SIGTERM)
         self.assertEqual(-signal.SIGTERM, night.wait(timeout=30))
 

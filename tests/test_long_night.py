@@ -100,7 +100,7 @@ class LongNight(LiveTest):
         self.writer = subprocess.Popen(["sh", "-c", 'exec cat "$0" >"$1"', fifo, self.kept])
         self.addCleanup(self.writer.kill)
         self.heard = Receiver(self.receiver)
-        self.night = self.begun("--record", fifo)
+        self.night = self.begin_night("--record", fifo)
         self.readers = [Reader(self.night.stdout), Reader(self.night.stderr)]
 
     def press(self):
@@ -177,7 +177,7 @@ class LongNight(LiveTest):
             late = took(pressed, pressed + max(zeros) - zero)
             in_time(late, TURN + ALLOWED, "a press by its moment")
 
-    def replayed(self):
+    def replay(self):
         """The digest of what `play` of the record sends, four lines at a time."""
         words = [PROGRAM, "play", *self.words(holds=True)[1:], "--name", LIVE_NAME]
         play = subprocess.Popen(words, stdin=subprocess.PIPE, stdout=subprocess.PIPE)
@@ -219,4 +219,4 @@ class LongNight(LiveTest):
         for universe in range(1, UNIVERSES + 1):
             numbers = [number for _, which, number, _, _ in self.heard.came if which == universe]
             self.assertEqual([k % 256 for k in range(len(numbers))], numbers)
-        self.assertEqual(self.heard.digest.hexdigest(), self.replayed())
+        self.assertEqual(self.heard.digest.hexdigest(), self.replay())

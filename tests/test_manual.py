@@ -22,7 +22,7 @@ PROFILE = (TOP / "docs/PROFILE.md").read_text()
 APACHE_2 = "cfc7749b96f63bd31c3c42b5c471bf756814053e847c10f3eb003417bc523d30"
 
 
-def shown(source):
+def page_text(source):
     """The text that a page's source shows, a line for each of its lines: no macros and no
     fonts."""
     lines = []
@@ -43,14 +43,15 @@ def shown(source):
 def parts(source, macro):
     """The parts of a source that begin with this macro, by their headings."""
     found = re.split(rf"(?m)^\.{macro} (.*)\n", source)[1:]
-    return {shown(head).strip('"'): body for head, body in zip(found[::2], found[1::2])}
+    return {page_text(head).strip('"'): body for head, body in zip(found[::2], found[1::2])}
 
 
 def tags(source):
     """The tags of a source's paragraphs, as they are shown, each with its text."""
     found = re.split(r"(?m)^\.TP\n(.*)\n", source)[1:]
     return {
-        shown(tag): " ".join(shown(body).split()) for tag, body in zip(found[::2], found[1::2])
+        page_text(tag): " ".join(page_text(body).split())
+        for tag, body in zip(found[::2], found[1::2])
     }
 
 
@@ -124,7 +125,7 @@ class Manual(unittest.TestCase):
             "--help",
             "--version",
         }
-        page = shown(PAGES["cueplayer.1"].read_text())
+        page = page_text(PAGES["cueplayer.1"].read_text())
         self.assertEqual(known, set(re.findall(r"(?<![\w-])--[a-z][a-z-]*", page)))
 
     def test_words(self):
@@ -144,7 +145,7 @@ class Manual(unittest.TestCase):
                 helps = [run_tool(tool, *kind.split(), "--help").stdout for kind in kinds]
                 known = set(re.findall(r"(?<![\w-])--[a-z-]+", "\n".join(helps)))
                 options = sections(f"cueplayer-{tool}.1")["OPTIONS"]
-                self.assertEqual(known, set(re.findall(r"(?<![\w-])--[a-z-]+", shown(options))))
+                self.assertEqual(known, set(re.findall(r"(?<![\w-])--[a-z-]+", page_text(options))))
 
     def test_night(self):
         """Each command of the script's help has its part."""
@@ -162,7 +163,7 @@ class Manual(unittest.TestCase):
 
     def test_names_of_faults_and_refusals(self):
         """Each name of the page on formats stands in the page of the program."""
-        page = set(re.findall(r"\w+", shown(PAGES["cueplayer.1"].read_text())))
+        page = set(re.findall(r"\w+", page_text(PAGES["cueplayer.1"].read_text())))
         names = names_in(FORMATS)
         self.assertIn("OutOfSequence", names)
         self.assertLessEqual(set(names), page)
@@ -187,13 +188,13 @@ class Manual(unittest.TestCase):
         )
         listed = re.search(r"(?m)^\*Primary\* keywords.*$", PROFILE)[0]
         keywords = set(re.findall(r"\b[A-Z]{2,}\b", listed))
-        page = shown(PAGES["cueplayer-show.5"].read_text())
+        page = page_text(PAGES["cueplayer-show.5"].read_text())
         self.assertLessEqual(keywords, set(re.findall(r"\b[A-Z]{2,}\b", page)))
 
     def test_synopsis_is_a_show(self):
         """The show at the head of the page is that of the profile, but for a comment, and is
         checked."""
-        lines = shown(sections("cueplayer-show.5")["SYNOPSIS"]).strip("\n").split("\n")
+        lines = page_text(sections("cueplayer-show.5")["SYNOPSIS"]).strip("\n").split("\n")
         profile = re.search(r"(?s)```\n(IDENT.*?)```", PROFILE)[1]
         wanted = [line.partition("!")[0].rstrip() for line in profile.splitlines()]
         self.assertEqual(wanted, [line.partition("!")[0].rstrip() for line in lines])

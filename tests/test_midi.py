@@ -143,7 +143,7 @@ class Device(DeskTest):
     def test_played(self):
         """It plays the night beside the page, which tells what is refused."""
         path, device = self.device()
-        _, page = self.opened(
+        _, page = self.open_desk(
             "--midi", path, "--midi-go", 60, "--midi-back", 59, "--midi-device", 7
         )
         os.write(device, b"\x90\x3c\x40")
@@ -163,7 +163,7 @@ class Device(DeskTest):
     def test_double_go(self):
         """A second GO so soon after the first is refused here too."""
         path, device = self.device()
-        _, page = self.opened("--midi", path, "--double-go", 10_000)
+        _, page = self.open_desk("--midi", path, "--double-go", 10_000)
         os.write(device, show(GO) + show(GO))
         page.wait(current="1", waiting=0)
         told = "MIDI: go: a second GO 0 ms after the first: nothing was sent"
@@ -174,7 +174,7 @@ class Device(DeskTest):
     def test_late(self):
         """What waited while the desk stood still is passed over, and told."""
         path, device = self.device()
-        desk, page = self.opened("--midi", path)
+        desk, page = self.open_desk("--midi", path)
         stand_still(desk.process.pid)
         os.write(device, show(GO))
         time.sleep(1.5)

@@ -39,7 +39,7 @@ SPARE_GOES_ON = r"the spare \(process (\d+)\) goes on where it was"
 class Goes(FolderNightTest):
     def test_folder(self):
         """What is in it, and the words of `live`, with the whole path of the show."""
-        self.begun()
+        self.begin_night()
         self.spare()
         names = {path.name for path in self.night.iterdir()}
         self.assertEqual({"night", "record", "replies", "in", "lock", "pid", "spare"}, names)
@@ -51,7 +51,7 @@ class Goes(FolderNightTest):
 
     def test_commands(self):
         """Each prints its own answer, and ends by it."""
-        self.begun()
+        self.begin_night()
         for words, expected in (
             (["go"], (0, ["ok", "cue 1"])),
             (["goto", "3", "in", "0"], (0, ["ok", "cue 3"])),
@@ -61,47 +61,47 @@ class Goes(FolderNightTest):
             (["sub", "1", "50"], (0, ["ok"])),
             (["master", "H40"], (0, ["ok"])),
             (["where"], (0, ["where cue 2 next 3 master 64 sub 1:128"])),
-            (["sub", "1"], (1, [self.refused("sub 1")])),
+            (["sub", "1"], (1, [self.refusal_of("sub 1")])),
         ):
             with self.subTest(words):
                 self.assertEqual(expected, self.without_moments(*words))
-        self.assertEqual(2, self.asked("jump").status)
-        self.assertEqual(2, self.asked("go", "x" * 200).status)
-        self.assertEqual(2, self.asked("go\nend").status)
+        self.assertEqual(2, self.run_script("jump").status)
+        self.assertEqual(2, self.run_script("go", "x" * 200).status)
+        self.assertEqual(2, self.run_script("go\nend").status)
 
-    def refused(self, line):
+    def refusal_of(self, line):
         reason = "sub and group want a number and a level: sub 3 50, group 1 FL"
         return f"line refused: {line}: {reason}"
 
     def test_end(self):
         """It ends the keeper too, with the status of `live`; a new night keeps the old record."""
-        keeper = self.kept(*self.words)
+        keeper = self.keeper(*self.words)
         keeper.out.find("end ends the night")
         self.assertEqual((0, ["ok", "cue 1"]), self.without_moments("go"))
-        status, out, _ = self.asked("end")
+        status, out, _ = self.run_script("end")
         self.assertEqual(0, status)
         self.assertRegex(out, r"^\d+ ok\n\d+ ok\n")
         self.assertEqual(0, keeper.process.wait(PATIENCE))
-        told = self.asked("status")
+        told = self.run_script("status")
         self.assertEqual((1, "the night has ended"), (told.status, told.out.splitlines()[0]))
         record = (self.night / "record").read_text()
-        again = self.asked("start")
+        again = self.run_script("start")
         self.assertEqual(4, again.status)
         self.assertIn("`start SHOW ..` begins a new one", again.out)
-        self.assertIn("nothing was sent", self.asked("go").err)
-        self.begun()
+        self.assertIn("nothing was sent", self.run_script("go").err)
+        self.begin_night()
         (old,) = self.night.glob("record-*")
         self.assertEqual(record, old.read_text())
         self.assertEqual((0, ["where next 1 master 255"]), self.without_moments("where"))
 
     def test_live_is_killed(self):
         """The spare goes on with its stream, at the same cue, at once; also the second time."""
-        self.begun()
+        self.begin_night()
         self.assertEqual((0, ["ok", "cue 1"]), self.without_moments("go"))
         numbers = self.wait_for_level(128)
         for times in (1, 2):
             spare = self.spare()
-            self.assertIn(f"\na spare stands by: process {spare}\n", self.asked("status").out)
+            self.assertIn(f"\na spare stands by: process {spare}\n", self.run_script("status").out)
             numbers += [each[SEQUENCE] for each in self.came()]
             killed = self.kill("pid")
             self.assertEqual((0, ["ok"]), self.without_moments("sub", "1", f"H{199 + times:02X}"))
@@ -112,13 +112,13 @@ class Goes(FolderNightTest):
         self.assertNumbered(numbers)
         masters = ["where cue 1 next 2 master 255 sub 1:201"]
         self.assertEqual((0, masters), self.without_moments("where"))
-        told = self.asked("status")
+        told = self.run_script("status")
         self.assertIn("\nrestarts: 2\n", told.out)
         self.assertIn(f"live (process {killed}) was ended by SIGKILL", told.out)
 
     def test_live_and_the_spare_are_killed(self):
         """Then `live` is started again. A spare alone is replaced."""
-        self.begun()
+        self.begin_night()
         self.assertEqual((0, ["ok", "cue 1"]), self.without_moments("go"))
         numbers = self.wait_for_level(128)
         first = self.spare()
@@ -138,7 +138,7 @@ class Goes(FolderNightTest):
 
     def test_keeper_and_live_are_killed(self):
         """The spare needs nobody; the next keeper takes hold of it, and starts another."""
-        self.begun()
+        self.begin_night()
         self.assertEqual((0, ["ok", "cue 1"]), self.without_moments("go"))
         numbers = self.wait_for_level(128)
         spare, live = self.spare(), self.number("pid")
@@ -146,8 +146,8 @@ class Goes(FolderNightTest):
         os.kill(live, signal.SIGKILL)
         self.assertEqual((0, ["ok"]), self.without_moments("sub", "1", "H92"))
         self.assertNumbered(numbers + self.wait_for_level(0x92))
-        self.assertIn(f"live is process {spare}", self.asked("status").out)
-        _, out, _ = self.asked("start", "--background")
+        self.assertIn(f"live is process {spare}", self.run_script("status").out)
+        _, out, _ = self.run_script("start", "--background")
         self.assertIn(f"takes hold of the night: live (process {spare}) plays", out)
         self.assertEqual(spare, self.number("pid"))
         wait_for(lambda: self.number("spare") != spare, "another spare")
@@ -155,27 +155,27 @@ class Goes(FolderNightTest):
 
     def test_spare_of_another_keeper(self):
         """A keeper takes hold of the spare too, and makes it the `live` of the night."""
-        self.begun()
+        self.begin_night()
         spare = self.spare()
         self.kill("lock")
-        self.asked("start", "--background")
+        self.run_script("start", "--background")
         live = self.kill("pid")
         told = rf"live \(process {live}\) is gone: {SPARE_GOES_ON}$"
         self.assertEqual([str(spare)], self.wait_for_reply(told))
         self.assertEqual((0, ["ok", "cue 1"]), self.without_moments("go"))
-        self.assertEqual(0, self.asked("end").status)
+        self.assertEqual(0, self.run_script("end").status)
         self.wait_for_reply("the night has ended$")
 
     def test_no_spare_of_another_show(self):
         """That is told once. Where `live` dies, the night cannot go on."""
-        self.begun()
+        self.begin_night()
         self.spare()
         self.show.write_bytes(b"CUE 1\n")
         self.kill("spare")
         self.wait_for_reply("record: another show")
         self.wait_for_reply("no spare stands by, as the lines above say")
         live = self.number("pid")
-        self.assertNotIn("a spare stands by", self.asked("status").out)
+        self.assertNotIn("a spare stands by", self.run_script("status").out)
         self.assertEqual(1, self.replies().count("record: another show"))
         os.kill(live, signal.SIGKILL)
         self.wait_for_reply("live refused to begin, with status 4")
@@ -185,13 +185,13 @@ class Goes(FolderNightTest):
 
     def test_keeper_is_killed(self):
         """`live` plays on and is commanded; the next keeper takes hold of it, and restarts it."""
-        self.begun()
+        self.begin_night()
         live, keeper = self.number("pid"), self.kill("lock")
         wait_for(lambda: not self.is_there(keeper), "the keeper is gone")
         self.assertEqual((0, ["ok", "cue 1"]), self.without_moments("go"))
         self.wait_for_level(128)
-        self.assertIn("nothing keeps it going", self.asked("status").out)
-        status, out, err = self.asked("start", "--background")
+        self.assertIn("nothing keeps it going", self.run_script("status").out)
+        status, out, err = self.run_script("start", "--background")
         self.assertEqual((0, ""), (status, err))
         self.assertIn(f"takes hold of the night: live (process {live}) plays", out)
         self.assertEqual(live, self.number("pid"))
@@ -199,48 +199,48 @@ class Goes(FolderNightTest):
         self.kill("pid")
         self.wait_for_reply(rf"live \(process {live}\) is gone: {SPARE_GOES_ON}$")
         self.assertEqual((0, ["ok", "cue 2"]), self.without_moments("go"))
-        self.assertEqual(0, self.asked("end").status)
+        self.assertEqual(0, self.run_script("end").status)
         self.wait_for_reply("the night has ended$")
 
     def test_end_of_a_night_of_another_keeper(self):
         """A keeper that took hold of `live` knows that its night has ended, and ends well."""
-        self.begun()
+        self.begin_night()
         self.kill("lock")
-        keeper = self.kept()
+        keeper = self.keeper()
         keeper.out.find("night: .* takes hold")
-        self.assertEqual(0, self.asked("end").status)
+        self.assertEqual(0, self.run_script("end").status)
         self.assertEqual(0, keeper.process.wait(PATIENCE))
         self.wait_for_reply("the night has ended")
 
     def test_number_of_live_is_lost(self):
         """A keeper finds `live` by its standard input, where the folder names another process."""
-        self.begun()
+        self.begin_night()
         live, _ = self.number("pid"), self.kill("lock")
         (self.night / "pid").write_text(f"{os.getpid()}\n")
-        _, out, _ = self.asked("start", "--background")
+        _, out, _ = self.run_script("start", "--background")
         self.assertIn(f"takes hold of the night: live (process {live}) plays", out)
 
     def test_all_are_killed(self):
         """The light goes, and `start` alone brings it back as it was, in the same stream."""
-        self.begun()
+        self.begin_night()
         self.without_moments("go")
         numbers = self.wait_for_level(128)
         self.spare()
         for name in ("lock", "spare", "pid"):
             self.kill(name)
         numbers += [each[SEQUENCE] for each in self.came()]
-        told = self.asked("status")
+        told = self.run_script("status")
         self.assertEqual(1, told.status)
         self.assertIn("no live plays the night: `cueplayer-night", told.out)
-        self.assertEqual(1, self.asked("go").status)
-        self.assertEqual(0, self.asked("start", "--background").status)
+        self.assertEqual(1, self.run_script("go").status)
+        self.assertEqual(0, self.run_script("start", "--background").status)
         numbers += self.wait_for_level(128)
         self.assertNumbered(numbers)
         self.assertEqual((0, ["where cue 1 next 2 master 255"]), self.without_moments("where"))
 
     def test_signals(self):
         """Those of a terminal change nothing; SIGTERM ends the keeper alone."""
-        keeper = self.kept(*self.words)
+        keeper = self.keeper(*self.words)
         keeper.out.find("end ends the night")
         live = self.number("pid")
         ignored = ("INT", "HUP", "QUIT", "TSTP")
@@ -255,47 +255,47 @@ class Goes(FolderNightTest):
 
     def test_halt(self):
         """Nothing plays any more, and the night is not over."""
-        self.begun()
+        self.begin_night()
         self.without_moments("go")
         numbers = self.number("pid"), self.number("lock"), self.spare()
-        self.assertEqual(0, self.asked("halt").status)
+        self.assertEqual(0, self.run_script("halt").status)
         self.assertEqual([False, False, False], [self.is_there(number) for number in numbers])
-        self.assertEqual(1, self.asked("halt").status)
-        self.assertEqual(0, self.asked("start", "--background").status)
+        self.assertEqual(1, self.run_script("halt").status)
+        self.assertEqual(0, self.run_script("start", "--background").status)
         self.assertEqual((0, ["ok", "cue 2"]), self.without_moments("go"))
 
     def test_begins_at_a_cue(self):
         """At the first start alone: after a crash the night is where it was."""
         self.words += ["--start", "3"]
-        self.begun()
+        self.begin_night()
         self.assertEqual((0, ["ok", "cue 2"]), self.without_moments("back"))
         self.kill("pid")
         self.assertEqual((0, ["where cue 2 next 3 master 255"]), self.without_moments("where"))
 
     def test_second_keeper(self):
-        self.begun()
+        self.begin_night()
         keeps = f"process {self.number('lock')} keeps the night in {self.night} already"
         told = f"cueplayer-night: {keeps}\n"
         for words in ([], ["--background"]):
-            self.assertEqual((1, "", told), self.asked("start", *words))
+            self.assertEqual((1, "", told), self.run_script("start", *words))
         told = f"cueplayer-night: the night in {self.night} is played already\n"
-        self.assertEqual((1, "", told), self.asked("start", *self.words))
+        self.assertEqual((1, "", told), self.run_script("start", *self.words))
 
     def test_other_words(self):
         """A night that has begun keeps its words; before that it takes others."""
-        self.assertEqual(0, self.asked("make", self.show, "--to", "127.0.0.1:9").status)
-        self.begun()
-        self.asked("halt")
-        status, _, err = self.asked("start", *self.words, "--priority", "50")
+        self.assertEqual(0, self.run_script("make", self.show, "--to", "127.0.0.1:9").status)
+        self.begin_night()
+        self.run_script("halt")
+        status, _, err = self.run_script("start", *self.words, "--priority", "50")
         self.assertEqual(1, status)
         self.assertIn("has begun with other words: `start` alone goes on with it", err)
-        self.assertEqual(0, self.asked("start", *self.words, "--background").status)
+        self.assertEqual(0, self.run_script("start", *self.words, "--background").status)
 
     def test_same_cid(self):
         """Another `live` of the CID plays: that is told, and not tried again."""
-        self.begun()
+        self.begin_night()
         one, self.night = self.night, self.folder / "another"
-        status, out, _ = self.asked("start", *self.words)
+        status, out, _ = self.run_script("start", *self.words)
         self.assertEqual(5, status)
         self.assertIn("another console on this machine sends under this CID", out)
         self.assertIn("another live has this CID: end that one, then `start`", out)
@@ -304,10 +304,10 @@ class Goes(FolderNightTest):
 
     def test_line_that_is_not_read(self):
         """It is taken back after a second, and told: nothing is carried out later."""
-        self.begun()
+        self.begin_night()
         live = self.number("pid")
         stand_still(live)
-        status, out, err = self.asked("go")
+        status, out, err = self.run_script("go")
         self.assertEqual((1, ""), (status, out))
         self.assertIn("no answer within a second", err)
         self.wait_for_reply(
@@ -318,7 +318,7 @@ class Goes(FolderNightTest):
 
     def test_many_writers(self):
         """The lines of many come whole, each once."""
-        self.begun()
+        self.begin_night()
         turns = [range(first, 256, 8) for first in range(8)]
 
         def write(levels):
@@ -327,7 +327,9 @@ class Goes(FolderNightTest):
                     fifo.write(f"sub 1 H{level:02X} ! from one of many, at some length\n")
 
         writers = [threading.Thread(target=write, args=(levels,)) for levels in turns]
-        shell = threading.Thread(target=lambda: [self.asked("group", "9", "FL") for _ in range(5)])
+        shell = threading.Thread(
+            target=lambda: [self.run_script("group", "9", "FL") for _ in range(5)]
+        )
         for writer in (*writers, shell):
             writer.start()
         for writer in (*writers, shell):
@@ -341,7 +343,7 @@ class Goes(FolderNightTest):
     def test_terminal(self):
         """Lines may be typed where it runs; control-C, control-D, a closed window end nothing."""
         ours, its = terminal(self)
-        keeper = self.kept(
+        keeper = self.keeper(
             *self.words, stdin=its, stdout=its, stderr=its, preexec_fn=take_terminal
         )
         os.close(its)
@@ -387,18 +389,18 @@ class ByChance(FolderNightTest):
         self.kills = 0
 
     def test_kills(self):
-        self.begun()
+        self.begin_night()
         chance, gone, numbers = random.Random(41), 0, []
         for _ in range(self.TURNS):
             match chance.randrange(4):
                 case 0:
                     self.kill_keeper()
                 case 1:
-                    self.asked("start", "--background")
+                    self.run_script("start", "--background")
                 case 2:
                     self.kill_live()
                 case _:
-                    self.assertEqual(0, self.answered("go").status)
+                    self.assertEqual(0, self.command("go").status)
                     gone += 1
             time.sleep(chance.uniform(0, 0.2))
             numbers += [each[SEQUENCE] for each in self.came(0)]
@@ -416,13 +418,13 @@ class ByChance(FolderNightTest):
     def live(self):
         """The process that plays the night, once a keeper has written which one that is."""
 
-        def named():
+        def process():
             text = (self.night / "pid").read_text().strip()
             return text and self.is_there(int(text)) and int(text)
 
-        if not named() and not self.is_there(self.number("lock")):
-            self.assertEqual(0, self.asked("start", "--background").status)
-        return wait_for(named, "the live that plays")
+        if not process() and not self.is_there(self.number("lock")):
+            self.assertEqual(0, self.run_script("start", "--background").status)
+        return wait_for(process, "the live that plays")
 
     def kill_live(self):
         """Where nothing would start it again, something is begun that does."""
@@ -432,7 +434,7 @@ class ByChance(FolderNightTest):
             os.kill(live, signal.SIGKILL)
             wait_for(lambda: not self.is_there(live), "live is gone")
             if not self.is_there(self.number("lock")):
-                self.assertEqual(0, self.asked("start", "--background").status)
+                self.assertEqual(0, self.run_script("start", "--background").status)
 
 
 def take_terminal():
@@ -462,7 +464,7 @@ class Stubbed(FolderNightTest):
             with self.subTest(status):
                 self.file("status", b"%d\n" % status)
                 self.file("began", b"")
-                done = self.asked("start", *self.words)
+                done = self.run_script("start", *self.words)
                 self.assertEqual((status, 1), (done.status, self.began()))
                 self.assertIn(f"refused to begin, with status {status}: the lines above", done.err)
         self.night = self.folder / "another"
@@ -471,7 +473,7 @@ class Stubbed(FolderNightTest):
             with self.subTest(status):
                 self.file("status", b"%d\n" % status)
                 self.file("began", b"")
-                done = self.asked("start", *self.words)
+                done = self.run_script("start", *self.words)
                 self.assertEqual((status, 1), (done.status, self.began()))
                 told = f"ended with status {status} before the night began"
                 self.assertIn(told, done.out)
@@ -479,7 +481,7 @@ class Stubbed(FolderNightTest):
     def test_told_on_standard_error(self):
         """What happened comes there and in the replies; where both outputs are one, once."""
         self.file("status", b"3\n")
-        done = self.asked("start", *self.words)
+        done = self.run_script("start", *self.words)
         self.assertEqual(1, done.err.count("refused to begin"))
         self.assertEqual(1, self.replies().count("refused to begin"))
         with open(self.folder / "log", "wb") as log:
@@ -496,24 +498,24 @@ class Stubbed(FolderNightTest):
                 self.file("status", b"%d\n" % status)
                 self.file("began", b"")
                 began = time.monotonic()
-                self.kept(*self.words)
+                self.keeper(*self.words)
                 wait = r"five restarts in a minute: the next in (\d+) s; "
                 left = int(self.wait_for_reply(wait)[0])
                 self.assertTrue(59 - took(began).ms / 1000 <= left <= 60, left)
                 self.assertEqual(6, self.began())
                 self.assertEqual(5, len(self.wait_for_reply(rf"{said}: {GO_ON}$", 5)))
-                self.assertIn("\nrestarts: 5\n", self.asked("status").out)
-                self.assertEqual(0, self.asked("halt").status)
+                self.assertIn("\nrestarts: 5\n", self.run_script("status").out)
+                self.assertEqual(0, self.run_script("halt").status)
 
     def test_record_in_use(self):
         """Where the record of one that died is still written, it is tried again; at first not."""
         self.says("record: in use by process 7")
         self.file("status", b"4\n")
-        self.assertEqual(4, self.asked("start", *self.words).status)
+        self.assertEqual(4, self.run_script("start", *self.words).status)
         self.night = self.folder / "another"
         self.file("began", b"")
         self.file("status", b"134\n4\n4\n0\n")
-        self.assertEqual(0, self.asked("start", *self.words).status)
+        self.assertEqual(0, self.run_script("start", *self.words).status)
         self.assertEqual(4, self.began())
 
     def test_no_card(self):
@@ -532,11 +534,11 @@ class Stubbed(FolderNightTest):
                 self.says("words refused", said)
                 self.file("began", b"")
                 self.night = self.folder / said.partition(":")[0]
-                done = self.asked("start", *self.words)
+                done = self.run_script("start", *self.words)
                 self.assertEqual((2, 1), (done.status, self.began()))
-                keeper = self.kept()
+                keeper = self.keeper()
                 keeper.out.find(".*live waits for its network card")
-                self.assertIn(said, self.asked("status").out)
+                self.assertIn(said, self.run_script("status").out)
                 # It would try again while the next one begins.
                 os.killpg(keeper.process.pid, signal.SIGKILL)
                 keeper.process.wait()
@@ -545,7 +547,7 @@ class Stubbed(FolderNightTest):
         """It is told once, and what comes of it is that of any other night."""
         self.file("status", b"134\n2\n0\n")
         self.says("words refused", "no card lit: there are lo (127.0.0.1)")
-        done = self.asked("start", *self.words)
+        done = self.run_script("start", *self.words)
         self.assertEqual((0, 3), (done.status, self.began()))
         self.assertEqual(1, done.err.count("waits for its network card"))
 
@@ -554,7 +556,7 @@ class Stubbed(FolderNightTest):
         self.says("lost 7")
         self.file("status", b"5\n")
         self.file("ends", b"")
-        done = self.asked("start", *self.words)
+        done = self.run_script("start", *self.words)
         self.assertEqual((5, 1), (done.status, self.began()))
         self.assertIn("the night has ended", done.out)
 
@@ -573,7 +575,7 @@ class Words(FolderNightTest):
                       ["start", "show", "--resume"], ["start", "show", "--help"],
                       ["start", "show", "--to", "a\nb"]):  # fmt: skip
             with self.subTest(words):
-                status, out, err = self.asked(*words)
+                status, out, err = self.run_script(*words)
                 self.assertEqual((2, ""), (status, out))
                 self.assertRegex(err, r"\Acueplayer-night: .*; --help lists the commands\n\Z")
                 self.assertFalse(self.night.exists())
@@ -583,17 +585,17 @@ class Words(FolderNightTest):
     def test_no_night(self):
         for words in (["start"], ["go"], ["status"], ["halt"]):
             with self.subTest(words):
-                status, out, err = self.asked(*words)
+                status, out, err = self.run_script(*words)
                 self.assertEqual((1, ""), (status, out))
                 self.assertRegex(err, r"\Acueplayer-night: no.*\n\Z")
 
     def test_make(self):
         """The folder is there, and nothing plays."""
-        self.assertEqual((0, "", ""), self.asked("make", *self.words))
+        self.assertEqual((0, "", ""), self.run_script("make", *self.words))
         names = {path.name for path in self.night.iterdir()}
         self.assertEqual({"night", "in", "lock", "replies"}, names)
-        self.assertEqual(1, self.asked("status").status)
-        self.assertIn("nothing was sent; `start` goes on with it", self.asked("go").err)
+        self.assertEqual(1, self.run_script("status").status)
+        self.assertIn("nothing was sent; `start` goes on with it", self.run_script("go").err)
 
 
 class Unit(unittest.TestCase):

@@ -172,7 +172,7 @@ class Notes(unittest.TestCase):
         bases = [file.read_bytes() for file in sorted((TOP / "examples").rglob("*.asc"))]
         until = time.process_time() + 1
         while time.process_time() < until:
-            content = changes.changed(r, r.choice(bases), changes.OF_TEXTS, 8)
+            content = changes.with_changes(r, r.choice(bases), changes.OF_TEXTS, 8)
             if len(content) <= shows.LONGEST:
                 self.assertEqual(
                     isinstance(shows.read(content), str), expected.notes(content) is None

@@ -17,13 +17,13 @@ SECONDS = 6
 SHOWS = int(os.environ.get("CUEPLAYER_SHOWS", "0"))
 
 
-def explained(content):
+def explain(content):
     """The status of `explain`, and the lines that it prints."""
     outcome = run("explain", "-", stdin=content)
     return outcome.status, outcome.out.decode("ascii").splitlines()
 
 
-def expected(content):
+def expected_output(content):
     """The same by the second readers: skipped lines and notes, or the faulty lines."""
     lines = notes.explanation(content)
     return (3, faults.faults(content)) if lines is None else (0, lines)
@@ -33,7 +33,7 @@ class Printed(ProgramTest):
     maxDiff = 3000
 
     def assertExplained(self, content):
-        self.assertEqual(expected(content), explained(content), content)
+        self.assertEqual(expected_output(content), explain(content), content)
 
     def assertStrict(self, content):
         """A strict check refuses exactly what has weight."""
@@ -48,7 +48,7 @@ class Printed(ProgramTest):
         until, tried = time.monotonic() + SECONDS, 0
         while tried < SHOWS or not SHOWS and time.monotonic() < until:
             tried += 1
-            content = changes.changed(r, r.choice(BASES), changes.OF_TEXTS, 8)
+            content = changes.with_changes(r, r.choice(BASES), changes.OF_TEXTS, 8)
             if len(content) <= shows.LONGEST:
                 self.assertExplained(content)
                 self.assertStrict(content)
@@ -80,7 +80,7 @@ class Printed(ProgramTest):
             "line 7: BadNumber at `x`: CUE x 2",
             "check answers line 1: BadNumber",
         ]
-        self.assertEqual((3, told), explained(show))
+        self.assertEqual((3, told), explain(show))
         self.assertEqual(told, faults.faults(show))
 
     def test_examples_of_slips(self):
@@ -89,7 +89,7 @@ class Printed(ProgramTest):
             with self.subTest(file.name):
                 content = file.read_bytes()
                 told = file.with_suffix(".explained").read_text().splitlines()
-                self.assertEqual(told, expected(content)[1])
+                self.assertEqual(told, expected_output(content)[1])
                 self.assertExplained(content)
                 self.assertEqual(3, run("check", "--strict", "-", stdin=content).status)
 
@@ -105,14 +105,14 @@ class Printed(ProgramTest):
             "line 1: BadNumber at `CUE`: PATCH 1 1<1@FL CUE 1 CHAN 1@FL ",
             "check answers line 1: BadNumber",
         ]
-        self.assertEqual((3, told), explained(show))
+        self.assertEqual((3, told), explain(show))
         self.assertEqual(told, faults.faults(show))
 
     def test_too_many_cues(self):
         show = text(*(f"CUE {n}" for n in range(1, 2002)), "CHAN x")
         told = ["line 2002: HalfPair: CHAN x", "check answers line 2001: Limit"]
         told[0] = "line 2002: BadNumber at `x`: CHAN x"
-        self.assertEqual((3, told), explained(show))
+        self.assertEqual((3, told), explain(show))
 
     def test_slips_are_refused(self):
         """The slips of the pen that a plain check passes."""

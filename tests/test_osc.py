@@ -20,7 +20,7 @@ from unittest import mock
 from machine import Late, in_time, took
 from program import CID, PROGRAM, ProgramTest
 from tooling import PATIENCE, TOOLS, Started, run_tool, stand_still, wait_for
-from wire import SLOT_1, address_of, received, receiving
+from wire import SLOT_1, address_of, datagrams_at, receiver_socket
 from worked import S1
 
 from cueplayer_tools import osc_port
@@ -30,7 +30,7 @@ from cueplayer_tools.osc_port import OscPort
 from cueplayer_tools.words import command_line
 
 
-def padded(text):
+def pad(text):
     """An OSC string: one to four zero bytes behind it."""
     return text + bytes(4 - len(text) % 4)
 
@@ -42,11 +42,11 @@ def message(address, *arguments, tags=None):
     data = b""
     for letter, value in zip(letters, arguments):
         if letter == "s":
-            data += padded(value.encode())
+            data += pad(value.encode())
         elif letter in "if":
             data += struct.pack(">" + letter, value)
     letters = letters.replace("?", "T" if True in arguments else "F")
-    return padded(address.encode()) + padded(b"," + (tags or letters).encode()) + data
+    return pad(address.encode()) + pad(b"," + (tags or letters).encode()) + data
 
 
 def bundle(*elements):
@@ -63,7 +63,7 @@ ASKED = (
     (message("/go"), "go"),
     (message("/cue/2.5/start"), "goto 2.5"),
     (message("/eos/cue/1/2.5/fire"), "goto 2.5"),
-    (padded(b"/cueplayer/go"), "go"),
+    (pad(b"/cueplayer/go"), "go"),
     (message("/cueplayer/go", 1.0), "go"),
     (message("/cueplayer/go", 1), "go"),
     (message("/cueplayer/go", True), "go"),
@@ -107,7 +107,7 @@ REFUSED = (
     (b"", "an empty datagram"),
     (b"go", "a size that is no multiple of four: go"),
     (b"gogo", "an address without an end: gogo"),
-    (padded(b"go\n"), "no address: go??"),
+    (pad(b"go\n"), "no address: go??"),
     (b"/a\0b", "an address without its padding: /a?b"),
     (message("/Go"), "/Go: no such address"),
     (message("/go/1"), "/go/1: no such address"),
@@ -198,8 +198,8 @@ class Lines(unittest.TestCase):
 
     def test_any_bytes(self):
         """What is named of any datagram is one short printable line, and nothing is raised."""
-        goto = padded(b"/cueplayer/goto")
-        starts = (b"", padded(b"/cueplayer/go"), b"#bundle\0" + bytes(8), goto)
+        goto = pad(b"/cueplayer/goto")
+        starts = (b"", pad(b"/cueplayer/go"), b"#bundle\0" + bytes(8), goto)
         for start in (*starts, goto + b",s\0\0"):
             for byte in range(256):
                 for size in (1, 4, 300):
@@ -364,7 +364,7 @@ class Flood:
 
 
 class Tool(ProgramTest):
-    def begun(self, **options):
+    def begin_tool(self, **options):
         """The tool at a port of its own, and a function that sends to it."""
         osc = Started(self, "osc", "--listen", "127.0.0.1:0", **options)
         port = int(re.fullmatch(r"osc: listening at 127\.0\.0\.1:(\d+)", osc.err.next())[1])
@@ -376,7 +376,7 @@ class Tool(ProgramTest):
         return osc, lambda datagram: sender.sendto(datagram, ("127.0.0.1", port))
 
     def test_lines_come_one_by_one(self):
-        osc, send = self.begun()
+        osc, send = self.begin_tool()
         for datagram, line in ASKED[:4]:
             send(datagram)
             self.assertEqual(line, osc.out.next())
@@ -390,7 +390,7 @@ class Tool(ProgramTest):
 
     def test_nothing_ends_it(self):
         """What cannot be read is told, and the next press is taken."""
-        osc, send = self.begun()
+        osc, send = self.begin_tool()
         for datagram in (GREATEST_DOUBLE, b"", bytes(60_000), b"#bundle\0" * 5_000, GO[:-1]):
             send(datagram)
         send(GO)
@@ -401,7 +401,7 @@ class Tool(ProgramTest):
 
     def test_late(self):
         """What came while the tool stood still for more than a second is refused."""
-        osc, send = self.begun()
+        osc, send = self.begin_tool()
         stand_still(osc.process.pid)
         send(GO)
         time.sleep(1.2)
@@ -439,7 +439,7 @@ class Tool(ProgramTest):
         a second, and a line a second is told."""
         for junk in (b"junk" * 16, message("/accxyz", 0.5), message("/cueplayer/other", 0.5)):
             with self.subTest(junk):
-                osc, send = self.begun()
+                osc, send = self.begin_tool()
                 flood = Flood(self, osc.port, junk)
                 for number in range(1, 9):
                     pressed = time.monotonic()
@@ -457,7 +457,7 @@ class Tool(ProgramTest):
 
     def test_address(self):
         """A port alone is of this machine alone; what is no address is refused by its words."""
-        with receiving() as taken:
+        with receiver_socket() as taken:
             port = taken.getsockname()[1]
             done = run_tool("osc", "--listen", port)
             told = f"osc: cannot listen at 127.0.0.1:{port}: Address already in use\n"
@@ -468,7 +468,7 @@ class Tool(ProgramTest):
 
     def test_night(self):
         """Into `live`: a fader of a tablet moves light; the end of the night ends the tool."""
-        receiver = receiving()
+        receiver = receiver_socket()
         self.addCleanup(receiver.close)
         show = self.enterContext(tempfile.NamedTemporaryFile(suffix=".asc"))
         show.write(S1)
@@ -490,7 +490,7 @@ class Tool(ProgramTest):
             sender.connect(("127.0.0.1", port))
             sender.send(message("/cueplayer/sub/1", 1.0))
             self.assertRegex(night.stdout.readline(), r"^\d+ ok$")
-            wait_for(lambda: 128 in {each[SLOT_1] for each in received(receiver)}, "light")
+            wait_for(lambda: 128 in {each[SLOT_1] for each in datagrams_at(receiver)}, "light")
             sender.send(bundle(message("/cueplayer/back", 1.0), message("/cueplayer/end")))
             self.assertRegex(night.stdout.readline(), r"^\d+ refused AtStart$")
             self.assertRegex(night.stdout.readline(), r"^\d+ ok$")

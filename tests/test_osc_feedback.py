@@ -7,13 +7,13 @@ import unittest
 from unittest import mock
 
 from desks import SHOW, DeskTest
-from test_osc import message, padded
+from test_osc import message, pad
 from tooling import wait_for
 
 from cueplayer_tools import osc_feedback
 from cueplayer_tools.cue_list import Cue, Show
 from cueplayer_tools.desk_state import State
-from cueplayer_tools.osc_packets import messages_of, packed
+from cueplayer_tools.osc_packets import messages_of, pack
 
 
 def read(datagram):
@@ -70,7 +70,7 @@ class Subscribers(DeskTest):
     def test_told(self):
         """All of it at once, then each change, whoever made it; and nothing behind an
         unsubscribe."""
-        _, page = self.opened("--osc", 0)
+        _, page = self.open_desk("--osc", 0)
         page.command("sub 1 FL")
         page.wait(masters={"sub 1": 255})
         tablet, other = Tablet(self, page), Tablet(self, page)
@@ -103,7 +103,7 @@ class Subscribers(DeskTest):
     def test_many(self):
         """There is room for 32; the next is told on the page. One of them asks, and all are
         told."""
-        _, page = self.opened("--osc", 0)
+        _, page = self.open_desk("--osc", 0)
         tablets = [Tablet(self, page) for _ in range(33)]
         for tablet in tablets[:-1]:
             tablet.send("/cueplayer/subscribe")
@@ -118,9 +118,9 @@ class Subscribers(DeskTest):
 
     def test_malformed(self):
         """A subscribe that is cut off is none; one that comes often is told all once a second."""
-        _, page = self.opened("--osc", 0)
+        _, page = self.open_desk("--osc", 0)
         tablet = Tablet(self, page)
-        tablet.socket.send(padded(b"/cueplayer/subscribe") + b",s\0\0")
+        tablet.socket.send(pad(b"/cueplayer/subscribe") + b",s\0\0")
         wait_for(page.notices, "a refusal")
         self.assertEqual(0, tablet.look())
         began = time.monotonic()
@@ -144,7 +144,7 @@ class Packets(unittest.TestCase):
             (7, "\N{LATIN SMALL LETTER O WITH DIAERESIS}"),
             (2**40,),
         ):
-            datagram = packed("/a/bc", *words)
+            datagram = pack("/a/bc", *words)
             self.assertEqual(0, len(datagram) % 4)
             read_again = read(datagram)
             kept = tuple(min(word, 2**31 - 1) if type(word) is int else word for word in words)

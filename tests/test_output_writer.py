@@ -9,7 +9,7 @@ import signal
 import subprocess
 import time
 
-from program import PROGRAM, told
+from program import PROGRAM, messages_in
 from test_live import without_moments
 from test_record_writer import NEVER, WriterTest
 from tooling import stand_still
@@ -28,11 +28,11 @@ class OutputWriter(WriterTest):
     def begun_in_files(self, *options, mode="wb", **kept):
         """A night whose standard output and standard error are files."""
         with open(self.out, mode) as out, open(self.err, mode) as err:
-            return self.begun(*options, stdout=out, stderr=err, **kept)
+            return self.begin_night(*options, stdout=out, stderr=err, **kept)
 
     def begun_in_one_file(self, *options, mode="wb"):
         with open(self.out, mode) as both:
-            return self.begun(*options, stdout=both, stderr=both)
+            return self.begin_night(*options, stdout=both, stderr=both)
 
     def refused_there(self, night, file):
         """A line that is refused is told in this file soon."""
@@ -59,7 +59,7 @@ class OutputWriter(WriterTest):
                     printed = self.out.read_bytes()
                     self.assertEqual(before, printed[: len(before)])
                     self.assertEqual(["ok"] * 4, without_moments(printed[len(before) :]))
-                    self.assertEqual(before + WRONG, told(self.err.read_bytes()))
+                    self.assertEqual(before + WRONG, messages_in(self.err.read_bytes()))
                     for each in writers:
                         self.ends(each)
 
@@ -75,20 +75,20 @@ class OutputWriter(WriterTest):
         self.light(night, b"sub 1 50\n", 64)
         time.sleep(3)
         self.light(night, b"sub 1 0\n", 0)
-        self.assertEqual(b"", told(self.err.read_bytes()))
+        self.assertEqual(b"", messages_in(self.err.read_bytes()))
         for each in writers:
             os.kill(each, signal.SIGCONT)
         self.assertEnds(night)
         self.assertTicks(self.record)
         wanted = ["ok", *["refused AtStart"] * 600, *["ok"] * 4]
         self.assertEqual(wanted, without_moments(self.out.read_bytes()))
-        self.assertEqual(WRONG * 600, told(self.err.read_bytes()))
+        self.assertEqual(WRONG * 600, messages_in(self.err.read_bytes()))
 
     def test_more_than_there_is_room(self):
         """What a disk that stalls for long leaves no room for is dropped, and counted in its
         place."""
         with open(self.out, "wb") as out:
-            night = self.begun("--record", self.record, stdout=out)
+            night = self.begin_night("--record", self.record, stdout=out)
         self.light(night, b"sub 1 FL\n", 128)
         writer = self.writer(night, self.out)
         stand_still(writer)
@@ -118,7 +118,7 @@ class OutputWriter(WriterTest):
                 self.light(night, b"sub 1 0\n", 0)
                 os.kill(writer, signal.SIGCONT)
                 self.assertEnds(night)
-                printed = told(self.out.read_bytes())
+                printed = messages_in(self.out.read_bytes())
                 self.assertEqual(before, printed[: len(before)])
                 printed = re.sub(rb"(?m)^\d+ ", b"", printed[len(before) :])
                 self.assertEqual(
@@ -128,7 +128,7 @@ class OutputWriter(WriterTest):
     def test_one_of_them(self):
         """Where one of them is no file, only the other has a writer."""
         with open(self.out, "wb") as out:
-            night = self.begun(stdout=out)
+            night = self.begin_night(stdout=out)
         self.light(night, b"sub 1 FL\n", 128)
         self.assertEqual([self.writer(night, self.out)], self.writers(night))
         night.stdin.write(b"jump\n")
@@ -141,7 +141,7 @@ class OutputWriter(WriterTest):
     def test_none_of_them(self):
         """Pipes and the null device have no writer."""
         for stdout in (subprocess.PIPE, subprocess.DEVNULL):
-            night = self.begun(stdout=stdout)
+            night = self.begin_night(stdout=stdout)
             self.light(night, b"sub 1 FL\n", 128)
             self.assertEqual([], self.writers(night))
             self.light(night, b"sub 1 0\n", 0)
@@ -154,7 +154,7 @@ class OutputWriter(WriterTest):
         os.mkfifo(pipe)
         self.PROGRAM = PROGRAM
         self.env = self.env | {"CUEPLAYER_OUTPUT_PIPE": str(pipe)}
-        self.assertEqual(["ok"] * 2, without_moments(self.ended(self.begun()).out))
+        self.assertEqual(["ok"] * 2, without_moments(self.end_night(self.begin_night()).out))
 
     def test_killed_beside_its_writers(self):
         """What was printed is in the files, though the disk stalled and the program was killed."""
@@ -174,12 +174,12 @@ class OutputWriter(WriterTest):
                     os.kill(each, signal.SIGCONT)
                     self.ends(each)
                 self.assertEqual(["ok"] * 2, without_moments(self.out.read_bytes()))
-                self.assertEqual(WRONG, told(self.err.read_bytes()))
+                self.assertEqual(WRONG, messages_in(self.err.read_bytes()))
 
     def test_writer_that_is_killed(self):
         """It is told, and the night goes on to its end."""
         with open(self.out, "wb") as out:
-            night = self.begun(stdout=out)
+            night = self.begin_night(stdout=out)
         self.light(night, b"sub 1 FL\n", 128)
         os.kill(self.writer(night, self.out), signal.SIGKILL)
         self.light(night, b"sub 1 50\n", 64)
@@ -196,7 +196,7 @@ class OutputWriter(WriterTest):
         with open(self.out, "wb") as out:
             out.write(b"x" * 4095)
             out.flush()
-            night = self.begun(stdout=out, preexec_fn=limit)
+            night = self.begin_night(stdout=out, preexec_fn=limit)
         self.light(night, b"sub 1 FL\n", 128)
         self.light(night, b"sub 1 50\n", 64)
         self.light(night, b"sub 1 0\n", 0)
@@ -211,7 +211,7 @@ class OutputWriter(WriterTest):
             with self.subTest(mode):
                 self.out.write_bytes(BEFORE * 99)
                 with open(self.out, mode) as out:
-                    night = self.begun(stdout=out)
+                    night = self.begin_night(stdout=out)
                 self.light(night, b"sub 1 FL\n", 128)
                 writer = self.writer(night, self.out)
                 stand_still(writer)
@@ -234,7 +234,7 @@ class OutputWriter(WriterTest):
                     [self.PROGRAM, *words], env=self.env, stdout=out, stderr=err, timeout=NEVER
                 )
                 self.assertEqual((status, b""), (done.returncode, self.out.read_bytes()))
-                self.assertIn(wanted, told(self.err.read_bytes()))
+                self.assertIn(wanted, messages_in(self.err.read_bytes()))
 
     def test_without_a_pipe(self):
         """Where no writer can be started that is told, and the program writes the files itself."""
@@ -250,5 +250,5 @@ class OutputWriter(WriterTest):
             f"cueplayer: no pipe to {name}: a disk that stalls holds up the light\n".encode()
             for name in ("the record", "standard output", "standard error")
         ]
-        self.assertEqual(b"".join(lines), told(self.err.read_bytes()))
+        self.assertEqual(b"".join(lines), messages_in(self.err.read_bytes()))
         self.assertEqual(["ok"] * 3, without_moments(self.out.read_bytes()))

@@ -70,7 +70,7 @@ class Outputs(OutputsTest):
                 reader, writer = os.pipe()
                 if not is_there:
                     os.close(reader)
-                night = self.begun(stdout=writer)
+                night = self.begin_night(stdout=writer)
                 os.close(writer)
                 self.light(night, b"sub 1 FL\n", 128)
                 if is_there:
@@ -83,7 +83,7 @@ class Outputs(OutputsTest):
     def test_output_without_room(self):
         """A file that takes nothing is told once; the night goes on."""
         with open("/dev/full", "wb") as full:
-            night = self.begun(stdout=full)
+            night = self.begin_night(stdout=full)
         self.light(night, b"sub 1 FL\n", 128)
         self.light(night, b"sub 1 0\n", 0)
         self.assertEnds(night)
@@ -95,7 +95,7 @@ class Outputs(OutputsTest):
             with self.subTest(blocks=blocks):
                 reader, writer, filled = full_pipe()
                 os.set_blocking(writer, blocks)
-                night = self.begun(stdout=writer)
+                night = self.begin_night(stdout=writer)
                 os.close(writer)
                 self.light(night, b"sub 1 FL\n", 128)
                 self.light(night, b"sub 1 0\n", 0)
@@ -108,7 +108,7 @@ class Outputs(OutputsTest):
     def test_reader_that_is_late(self):
         """What is not read yet when the night has ended comes if it is read soon."""
         reader, writer, filled = full_pipe()
-        night = self.begun(stdout=writer)
+        night = self.begin_night(stdout=writer)
         os.close(writer)
         self.light(night, b"sub 1 FL\n", 128)
         night.stdin.write(b"end\n")
@@ -121,7 +121,7 @@ class Outputs(OutputsTest):
     def test_reader_that_stalls(self):
         """What there is no room for is dropped, and in its place stands how much that was."""
         record = self.folder / "night.play"
-        night = self.begun("--record", record)
+        night = self.begin_night("--record", record)
         count = 30_000
         line = b"back\n"
         writer = threading.Thread(target=night.stdin.write, args=(line * count,))
@@ -152,7 +152,7 @@ class Outputs(OutputsTest):
     def test_messages_that_nobody_reads(self):
         """Refused lines without end hold up nothing; how many could not be told is told."""
         record = self.folder / "night.play"
-        night = self.begun("--record", record)
+        night = self.begin_night("--record", record)
         night.stdin.write(b"no such command\n" * 10_000)
         self.light(night, b"sub 1 FL\n", 128)
         self.light(night, b"sub 1 0\n", 0)
@@ -173,7 +173,7 @@ class Outputs(OutputsTest):
         """Control-S holds up what is printed, and not the light."""
         ours, theirs = terminal(self)
         record = self.folder / "night.play"
-        night = self.begun("--record", record, stdout=theirs, stderr=theirs)
+        night = self.begin_night("--record", record, stdout=theirs, stderr=theirs)
         termios.tcflow(theirs, termios.TCOOFF)
         os.close(theirs)
         night.stdin.write(b"jump\n" * 2_000)
@@ -189,7 +189,7 @@ class Outputs(OutputsTest):
         """A FIFO without a reader: the night begins, and what is read later has all of it."""
         fifo = self.folder / "record"
         os.mkfifo(fifo)
-        night = self.begun("--record", fifo)
+        night = self.begin_night("--record", fifo)
         self.light(night, b"sub 1 FL\n", 128)
         copy = self.folder / "night.play"
         with open(copy, "wb") as kept:
@@ -208,7 +208,7 @@ class Outputs(OutputsTest):
         fifo = self.folder / "record"
         os.mkfifo(fifo)
         reader = os.open(fifo, os.O_RDONLY | os.O_NONBLOCK)
-        night = self.begun("--record", fifo)
+        night = self.begin_night("--record", fifo)
         fcntl.fcntl(reader, fcntl.F_SETPIPE_SZ, 4096)
         lines = b"master FL ! a comment that makes a line longer than it would have to be\n" * 60
         night.stdin.write(lines)
@@ -237,7 +237,7 @@ class Outputs(OutputsTest):
         fifo = self.folder / "record"
         os.mkfifo(fifo)
         reader = os.open(fifo, os.O_RDONLY | os.O_NONBLOCK)
-        night = self.begun("--record", fifo, stdout=subprocess.DEVNULL)
+        night = self.begin_night("--record", fifo, stdout=subprocess.DEVNULL)
         line = b"master FL ! " + b"x" * 150 + b"\n"
         night.stdin.write(line * 2_000)
         self.assertEqual(b"record: late, and the light goes on\n", night.stderr.readline())

@@ -2,18 +2,18 @@
 
 from program import CID, FolderTest, run, text
 from test_listen import Listener
-from worked import look_one, numbered
+from worked import look_one, replies_by_number
 
 LOOK_ONE = look_one()
 AT_ONCE = 64  # datagrams that wait at a socket
 
 
-def turned(offset):
+def turn_byte(offset):
     """The packet with all eight bits of one byte turned over."""
     return LOOK_ONE[:offset] + bytes([LOOK_ONE[offset] ^ 0xFF]) + LOOK_ONE[offset + 1 :]
 
 
-def shown(offset, reply):
+def slots_text(offset, reply):
     """The slots line of that packet."""
     if reply.startswith("ignored"):
         return "slots"
@@ -25,7 +25,7 @@ def shown(offset, reply):
 class Packets(FolderTest):
     def test_cut_packet(self):
         """Over a socket, a number of datagrams at a time."""
-        replies = numbered("cut_packet", "bytes")
+        replies = replies_by_number("cut_packet", "bytes")
         listener = Listener(count=len(replies))
         self.addCleanup(listener.abandon)
         for first in range(0, len(replies), AT_ONCE):
@@ -37,15 +37,15 @@ class Packets(FolderTest):
 
     def test_turned_bytes(self):
         """In memory, each so late that what came before is forgotten; and then what is shown."""
-        replies = numbered("turned_bytes", "offsets")
+        replies = replies_by_number("turned_bytes", "offsets")
         lines, out = [f"console 1 100 {CID}", "receiver 1"], []
         for offset in range(len(LOOK_ONE)):
             reply = replies.get(offset, "taken 0")
             lines += [
-                f"{2500 * offset} stray 0 {turned(offset).hex()}",
+                f"{2500 * offset} stray 0 {turn_byte(offset).hex()}",
                 f"{2500 * offset} slots 0",
             ]
-            out += [f"{len(lines) - 1} {reply}", f"{len(lines)} {shown(offset, reply)}"]
+            out += [f"{len(lines) - 1} {reply}", f"{len(lines)} {slots_text(offset, reply)}"]
         script = self.file("night.script", text(*lines))
         self.assertEqual(
             (0, text(*out, "end 0 slots 1:64 512:255"), b""), run("rehearse", "/dev/null", script)

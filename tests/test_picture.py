@@ -10,7 +10,7 @@ import xml.etree.ElementTree as xml
 
 from program import CID, PROGRAM, TOP, FolderTest, run, text
 from tooling import run_tool
-from wire import SEQUENCE, SLOT_1, address_of, received, receiving
+from wire import SEQUENCE, SLOT_1, address_of, datagrams_at, receiver_socket
 from worked import S1, plays
 
 from cueplayer_tools import cue_list, night, record, rehearsal
@@ -37,7 +37,7 @@ class PictureTest(FolderTest):
         given = record.read_record("\n".join(lines) + "\n")
         return night.night_of(self.file("show.asc", content), given, list(universes), base)
 
-    def drawn(self, *words):
+    def draw(self, *words):
         """A picture, which is sound XML and loads nothing."""
         done = run_tool("picture", *words)
         self.assertEqual((0, ""), (done.returncode, done.stderr))
@@ -88,7 +88,7 @@ class Levels(PictureTest):
 
     def test_live_record(self):
         """Of a live night the levels are those that reached a socket, at each tick."""
-        with receiving() as receiver:
+        with receiver_socket() as receiver:
             to = address_of(receiver)
             content = text("CUE 1", "UP 1", "CHAN 1@FL", "PATCH 1 1<1@FL")
             file, kept = self.file("show.asc", content), self.folder / "night.play"
@@ -100,7 +100,7 @@ class Levels(PictureTest):
                 live.stdin.flush()
                 time.sleep(0.3)
             live.communicate(timeout=30)
-            came = received(receiver)
+            came = datagrams_at(receiver)
         given = record.read_record(kept.read_text())
         found = night.night_of(file, given, [1], 1)
         shown = iter(came)
@@ -121,7 +121,7 @@ class Levels(PictureTest):
         ticks = [record.Given(moment, ("tick",)) for moment in range(0, 60000, 25)]
         commands = [record.Given(moment, ("go",)) for moment in (10, 20010)]
         given = sorted(ticks + commands, key=lambda line: line.moment)
-        thin = night.thinned(given, 0, 60000)
+        thin = night.thin_ticks(given, 0, 60000)
         self.assertTrue(200 < len(thin) < 500, len(thin))
         self.assertLessEqual(set(commands), set(thin))
         for moment in (0, 25, 20000, 20025, 59975):
@@ -136,7 +136,7 @@ class Levels(PictureTest):
     def test_filled(self):
         """Ticks of our own stand only where there are none, and never too close to another."""
         given = record.read_record("10 go\n500 tick\n900 back\n")
-        moments = [line.moment for line in night.filled(given, 100) if line.is_tick]
+        moments = [line.moment for line in night.fill_ticks(given, 100) if line.is_tick]
         self.assertEqual([10, 110, 210, 310, 410, 500, 600, 700, 800, 900], moments)
 
 
@@ -205,12 +205,12 @@ class Pictures(PictureTest):
         """The pictures of examples/, byte for byte."""
         for name, words in (("small-play.svg", EVENING), ("backup-console.svg", BACKUP)):
             with self.subTest(name):
-                drawn, _ = self.drawn(*words)
+                drawn, _ = self.draw(*words)
                 self.assertEqual((EXAMPLES / name).read_text(), drawn)
 
     def test_evening(self):
         """Cues by their names, masters, a refused command; both kinds of background."""
-        drawn, texts = self.drawn(*EVENING)
+        drawn, texts = self.draw(*EVENING)
         for told in ("A short evening", "0.5 preset: the audience comes in", "4 curtain call",
                      "go: AtEnd", "master", "sub 2 work light", "channel 31 (3:1-2)"):
             self.assertIn(told, texts)
@@ -221,7 +221,7 @@ class Pictures(PictureTest):
         """The lost packets of the example; its printed replies alone give the same but for what
         they were not asked."""
         for replies in ((), ("--replies", EXAMPLES / "backup-console.replies")):
-            _, texts = self.drawn(*BACKUP, *replies)
+            _, texts = self.draw(*BACKUP, *replies)
             self.assertIn("2 of 6 lost", texts)
             self.assertIn("0 of 5 lost", texts)
 
@@ -240,16 +240,16 @@ class Pictures(PictureTest):
         file = self.file("show.asc", S1)
         kept = self.file("night.play", b"0 go\n0 tick\n2000 tick\n4000 tick\n")
         printed = self.file("printed", b"0 ok\n2000 live 1:x1\n4000 live 1:x2\n")
-        drawn, texts = self.drawn("night", file, kept, "--replies", printed)
+        drawn, texts = self.draw("night", file, kept, "--replies", printed)
         self.assertEqual("2", texts[texts.index("lost packets") + 1])
         self.assertIn("2 packets were lost", drawn)
-        self.assertNotIn("lost packets", self.drawn("night", file, kept)[1])
+        self.assertNotIn("lost packets", self.draw("night", file, kept)[1])
 
     def test_names_are_text(self):
         """What a show is called by is never markup."""
         file = self.file("show.asc", text('CUE 1 ! a <b>&" sign', "CHAN 1@FL", "PATCH 1 1<1@FL"))
         kept = self.file("night.play", b"0 go\n0 tick\n25 tick\n")
-        _, texts = self.drawn("night", file, kept, "--title", "</svg>")
+        _, texts = self.draw("night", file, kept, "--title", "</svg>")
         self.assertIn('1 a <b>&" sign', texts)
         self.assertIn("</svg>", texts)
 
@@ -258,7 +258,7 @@ class Pictures(PictureTest):
         file = self.file("show.asc", S1)
         kept = self.file("night.play", b"0 go\n0 tick\n6000 tick\n6025 tick\n7000 go\n")
         part = ("--from", 6000, "--until", 6500, "--slot", "1:1")
-        _, texts = self.drawn("night", file, kept, *part)
+        _, texts = self.draw("night", file, kept, *part)
         self.assertNotIn("1", texts[texts.index("night.play") :])
         self.assertIn("1:1", texts)
 
@@ -304,7 +304,7 @@ class Pictures(PictureTest):
         strays = "receiver 7\n5 stray 0\n9 stray 0 00\n9 slots 0\n9 deliver 0 0 1 5\n"
         for lines in ("", "0 tick 0\n", strays):
             script = self.file("night.script", (console + lines).encode())
-            self.drawn("rehearsal", EXAMPLES / "one-dimmer.asc", script)
+            self.draw("rehearsal", EXAMPLES / "one-dimmer.asc", script)
 
 
 class Shows(PictureTest):

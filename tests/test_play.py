@@ -6,8 +6,19 @@ import select
 import subprocess
 import sys
 
-from program import CID, DEVICE_FAULT, PROGRAM, UNFIT, FolderTest, Outcome, packet, run, text, told
-from wire import address_of, free_port, own_network, received, receiving, socket_flags
+from program import (
+    CID,
+    DEVICE_FAULT,
+    PROGRAM,
+    UNFIT,
+    FolderTest,
+    Outcome,
+    messages_in,
+    packet,
+    run,
+    text,
+)
+from wire import address_of, datagrams_at, free_port, own_network, receiver_socket, socket_flags
 from worked import S1, example, keep_alive, plays, with_examples
 
 TWO_UNIVERSES = example("two_universes").show()
@@ -19,13 +30,13 @@ class PlayTest(FolderTest):
 
     def assertPlays(self, play):
         """A run prints its lines, and sends its packets in this order."""
-        with receiving() as receiver:
+        with receiver_socket() as receiver:
             outcome = run(
                 *self.words(play.show, *play.options, to=address_of(receiver)), stdin=play.stdin
             )
             self.assertEqual(Outcome(play.status, play.out, play.err), outcome)
             self.assertEqual(
-                [p.hex() for p in play.packets], [d.hex() for d in received(receiver)]
+                [p.hex() for p in play.packets], [d.hex() for d in datagrams_at(receiver)]
             )
 
 
@@ -94,7 +105,8 @@ class Ends(PlayTest):
         done = subprocess.run(
             [PROGRAM, *self.words(S1)], stdin=folder, capture_output=True, timeout=60
         )
-        self.assertEqual((5, DEVICE_FAULT, b""), (done.returncode, told(done.stderr), done.stdout))
+        found = (done.returncode, messages_in(done.stderr), done.stdout)
+        self.assertEqual((5, DEVICE_FAULT, b""), found)
         self.assertFullDisk(self.words(S1), b"0 go\n")
 
     def test_lost_packets(self):
@@ -113,10 +125,10 @@ class Ends(PlayTest):
         self.assertEqual((0, out, b""), run(*words, stdin=lines))
 
     def test_options(self):
-        with receiving() as receiver:
+        with receiver_socket() as receiver:
             words = self.words(S1, "--priority", "200", "--base", "63999", to=address_of(receiver))
             run(*words, stdin=b"0 tick\n")
-            self.assertEqual([packet(63999, {}, priority=200)], received(receiver))
+            self.assertEqual([packet(63999, {}, priority=200)], datagrams_at(receiver))
         for option, value in (
             ("--priority", "201"),
             ("--base", "0"),

@@ -10,7 +10,7 @@ import threading
 import time
 from pathlib import Path
 
-from program import PROGRAM, TOP, run, told
+from program import PROGRAM, TOP, messages_in, run
 from test_outputs import OutputsTest
 from tooling import stand_still
 
@@ -86,7 +86,7 @@ class RecordWriter(WriterTest):
         """When the program has ended, the record has all of it."""
         for option in (("--record", self.record), (f"--record={self.record}",)):
             with self.subTest(option):
-                night = self.begun(*option)
+                night = self.begin_night(*option)
                 self.light(night, b"sub 1 FL\n", 128)
                 self.light(night, b"sub 1 0\n", 0)
                 self.assertEnds(night)
@@ -103,7 +103,7 @@ class RecordWriter(WriterTest):
         """CUEPLAYER may name the script: the file that it has made is not removed by the run that
         only sees whether the program starts."""
         self.env["CUEPLAYER"] = str(self.PROGRAM)
-        night = self.begun("--record", self.record)
+        night = self.begin_night("--record", self.record)
         self.light(night, b"sub 1 FL\n", 128)
         self.assertEnds(night)
         self.assertEqual(b"", night.stderr.read())
@@ -112,7 +112,7 @@ class RecordWriter(WriterTest):
     def test_disk_that_stalls(self):
         """The light goes on, without a late tick; it is told once, and again when all is
         written."""
-        night = self.begun("--record", self.record, stdout=subprocess.DEVNULL)
+        night = self.begin_night("--record", self.record, stdout=subprocess.DEVNULL)
         self.light(night, b"sub 1 FL\n", 128)
         writer = self.writer(night)
         stand_still(writer)
@@ -132,7 +132,7 @@ class RecordWriter(WriterTest):
 
     def test_killed_beside_its_writer(self):
         """What was carried out is recorded, though the disk stalled and the program was killed."""
-        night = self.begun("--record", self.record)
+        night = self.begin_night("--record", self.record)
         self.light(night, b"sub 1 FL\n", 128)
         writer = self.writer(night)
         stand_still(writer)
@@ -146,7 +146,7 @@ class RecordWriter(WriterTest):
 
     def test_writer_that_is_killed(self):
         """It is told, and the night goes on to its end."""
-        night = self.begun("--record", self.record)
+        night = self.begin_night("--record", self.record)
         self.light(night, b"sub 1 FL\n", 128)
         os.kill(self.writer(night), signal.SIGKILL)
         self.light(night, b"sub 1 50\n", 64)
@@ -158,7 +158,7 @@ class RecordWriter(WriterTest):
     def test_writer_that_goes_on_at_the_end(self):
         """The end waits for what a writer has still, and tells nothing where all is written within
         two seconds."""
-        night = self.begun("--record", self.record)
+        night = self.begin_night("--record", self.record)
         self.light(night, b"sub 1 FL\n", 128)
         writer = self.writer(night)
         stand_still(writer)
@@ -173,7 +173,7 @@ class RecordWriter(WriterTest):
 
     def test_stalled_to_the_end(self):
         """The program ends, and says how much its writer has still."""
-        night = self.begun("--record", self.record)
+        night = self.begin_night("--record", self.record)
         self.light(night, b"sub 1 FL\n", 128)
         writer = self.writer(night)
         stand_still(writer)
@@ -183,13 +183,13 @@ class RecordWriter(WriterTest):
 
     def test_stalled_to_the_end_of_another(self):
         """The same where the night goes on behind what stood in its record."""
-        first = self.begun("--record", self.record)
+        first = self.begin_night("--record", self.record)
         self.light(first, b"sub 1 FL\n", 128)
         writer = self.writer(first)
         first.kill()
         first.wait()
         self.ends(writer)
-        night = self.begun("--record", self.record, "--resume")
+        night = self.begin_night("--record", self.record, "--resume")
         self.light(night, b"sub 1 50\n", 64)
         writer = self.writer(night)
         stand_still(writer)
@@ -208,7 +208,7 @@ class RecordWriter(WriterTest):
             self.assertEqual(2, done.returncode)
             self.assertFalse(self.record.exists())
         self.record.write_bytes(b"0 tick\n")
-        night = self.started("--record", self.record)
+        night = self.start("--record", self.record)
         self.assertEqual(5, night.wait(timeout=NEVER))
         refused = b"device fault\nthe record's file is not empty: --resume goes on with it\n"
         self.assertEqual(refused, night.stderr.read())
@@ -221,9 +221,9 @@ class RecordWriter(WriterTest):
         for name in ("sh", "readlink", "sha256sum", "cat", "dd", "rm", "mkfifo"):
             (tools / name).symlink_to(shutil.which(name))
         self.env = self.env | {"PATH": str(tools)}
-        night = self.started("--record", self.record)
+        night = self.start("--record", self.record)
         self.light(night, b"sub 1 FL\n", 128)
         self.assertEnds(night)
         without_pipe = b"cueplayer: no pipe to the record: a disk that stalls holds up the light\n"
-        self.assertEqual(without_pipe, told(night.stderr.read()))
+        self.assertEqual(without_pipe, messages_in(night.stderr.read()))
         self.assertEqual([b"sub 1 FL", b"master 0", b"end"], commands(self.record))

@@ -9,7 +9,7 @@ import subprocess
 import time
 
 from preload import PreloadTest
-from program import CID, PROGRAM, TO_NOBODY, Outcome, packet, run, text, told
+from program import CID, PROGRAM, TO_NOBODY, Outcome, messages_in, packet, run, text
 from test_listen import Listener
 
 MEMORY = Outcome(6, b"", b"memory\n")
@@ -33,7 +33,7 @@ class Growths(PreloadTest):
         self.counted = self.file("counted", bytes(16))
 
     def environment(self, growth):
-        return self.preloaded(REFUSED=str(growth), COUNTED=str(self.counted))
+        return self.library_environment(REFUSED=str(growth), COUNTED=str(self.counted))
 
     def growths(self):
         """How many growths the last run asked for, and how many until its first datagram."""
@@ -130,7 +130,7 @@ class RefusedGrowths(Growths):
     def test_watch(self):
         """What was printed at the lines before stays."""
         words = ["watch", "1", "2"]
-        lines = text(*(f"{200 * n} {watched(n).hex()}" for n in range(8)), "9000")
+        lines = text(*(f"{200 * n} {watch_datagram(n).hex()}" for n in range(8)), "9000")
         whole = self.run_preloaded(words, lines, self.environment(0))
         growths, _ = self.growths()
         self.assertEqual((0, b""), (whole.status, whole.err))
@@ -165,7 +165,7 @@ class RefusedGrowths(Growths):
             self.assertEachRefused(words, b"", has_remark=True)
 
 
-def watched(n):
+def watch_datagram(n):
     """A datagram of a night of `watch`, by its number: of seven sources, some of them
     strangers."""
     cid = f"{CID[:-1]}{n % 7}"
@@ -235,7 +235,7 @@ class NoGrowths(Growths):
             night.stdin.write(text(line))
             time.sleep(0.03)
         _, err = night.communicate(timeout=60)
-        err = told(err)
+        err = messages_in(err)
         self.assertEqual((0, 2), (night.returncode, err.count(b"line refused")))
         self.assertNoneAfterTheFirst()
 

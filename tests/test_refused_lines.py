@@ -2,7 +2,7 @@
 
 import subprocess
 
-from program import behind_head, told
+from program import behind_head, messages_in
 from test_live import LiveTest, without_moments
 
 LONG = "a line has at most 200 bytes with its moment"
@@ -40,24 +40,24 @@ SENT = (
 
 
 class RefusedLines(LiveTest):
-    def typed(self, *lines, options=()):
+    def type_lines(self, *lines, options=()):
         """What is shown of these lines, and told; all of them come before the end of the night."""
         text = "".join(line + "\n" for line in lines).encode("latin-1")
         words = [self.PROGRAM, *self.words(*options)]
         done = subprocess.run(words, input=text, capture_output=True, timeout=60)
         self.assertEqual(0, done.returncode)
-        return without_moments(done.stdout), told(done.stderr).decode().splitlines()
+        return without_moments(done.stdout), messages_in(done.stderr).decode().splitlines()
 
     def test_reasons(self):
         """Each line has the reason that is to help its writer; none is carried out."""
         for reason, *lines in REASONS:
-            shown, refused = self.typed(*lines)
+            shown, refused = self.type_lines(*lines)
             self.assertEqual(["ok", "ok"], shown)
             self.assertEqual([f"line refused: {line[:200]}: {reason}" for line in lines], refused)
 
     def test_after_the_end(self):
         for word in ("end", "leave"):
-            _, refused = self.typed(word, "go", "go 4", "jump", "end")
+            _, refused = self.type_lines(word, "go", "go 4", "jump", "end")
             self.assertEqual(
                 [f"line refused: {line}: {ENDING}" for line in ("go", "go 4", "jump", "end")],
                 refused,
@@ -68,29 +68,29 @@ class RefusedLines(LiveTest):
         for sent in SENT:
             for line in (f"{sent}go", f"go{sent}", f"g{sent}o", f"{sent}{sent} go {sent}"):
                 with self.subTest(line):
-                    shown, keys = self.typed(line)
+                    shown, keys = self.type_lines(line)
                     self.assertEqual(
                         (["ok", "cue 1", "ok", "ok"], ["keys ignored"]), (shown, keys)
                     )
 
     def test_keys_before_requests(self):
-        shown, keys = self.typed("\x1b[Awhere", "\x1b[Ahelp")
+        shown, keys = self.type_lines("\x1b[Awhere", "\x1b[Ahelp")
         self.assertEqual(["keys ignored"] * 2, keys)
         self.assertEqual("where next 1 master 255", shown[0])
 
     def test_keys_alone(self):
-        shown, refused = self.typed("\x1b[A", "\x1b[A\x1b[B", "\x1b")
+        shown, refused = self.type_lines("\x1b[A", "\x1b[A\x1b[B", "\x1b")
         lines = ("?[A", "?[A?[B", "?")
         self.assertEqual([f"line refused: {line}: {KEYS}" for line in lines], refused)
         self.assertEqual(["ok", "ok"], shown)
 
     def test_keys_in_a_refused_line(self):
         """It has its reason, and no more."""
-        self.assertEqual([f"line refused: ?[Ago 4: {GO}"], self.typed("\x1b[Ago 4")[1])
+        self.assertEqual([f"line refused: ?[Ago 4: {GO}"], self.type_lines("\x1b[Ago 4")[1])
 
     def test_record(self):
         """It has neither refused lines nor keys."""
         record = self.folder / "night.play"
-        self.typed("\x1b[Ago", "go 4", "jump", options=("--record", record))
+        self.type_lines("\x1b[Ago", "go 4", "jump", options=("--record", record))
         commands = [line.split(" ", 1)[1] for line in behind_head(record.read_bytes())]
         self.assertEqual(["go", "master 0", "end"], [line for line in commands if line != "tick"])

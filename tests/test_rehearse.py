@@ -33,7 +33,7 @@ class Rehearse(FolderTest):
         """Behind the usual header, each line has this reply."""
         self.assertRehearses(rehearsal_of(S1, steps))
 
-    def played(self, last):
+    def lines_and_replies(self, last):
         """The lines of a submaster that moves at each tick, up to tick `last`, and their
         replies."""
         for i in range(last + 1):
@@ -49,11 +49,11 @@ class Rehearse(FolderTest):
                 taken = reply if k == newest else "ignored OutOfSequence"
                 delivered.append((text(f"10475 deliver 0 0 1 {k}"), taken))
             delivered.append((text("10475 slots 0"), shown))
-        self.assertReplies(*self.played(419), *delivered, (b"", f"end 0 {shown}"))
+        self.assertReplies(*self.lines_and_replies(419), *delivered, (b"", f"end 0 {shown}"))
 
     def test_window_edge(self):
         for then in tables("window_edge"):
-            self.assertReplies(*self.played(237), *steps(then.rows, "then"))
+            self.assertReplies(*self.lines_and_replies(237), *steps(then.rows, "then"))
 
     def test_strays(self):
         """A stray is whatever its digits spell: nothing, a packet, or one of another source."""

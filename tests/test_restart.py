@@ -15,7 +15,7 @@ from program import CID, LIVE_NAME, PROGRAM, TOP, run, text
 from restarts import HEAD, Ear, Judge, KilledNight, Wrong, head, moments, sent_by, wait_until
 from test_live import LiveTest, without_moments
 from tooling import stand_still
-from wire import OPTIONS, SEQUENCE, TERMINATED, address_of, receiving
+from wire import OPTIONS, SEQUENCE, TERMINATED, address_of, receiver_socket
 
 # Two universes, in each of which something changes at nearly every tick of a move.
 SHOW = text(
@@ -56,12 +56,12 @@ class RestartTest(LiveTest):
         self.addCleanup(night.close)
         return night
 
-    def killed(self, *lines, pause=0.3, **kept):
+    def killed_night(self, *lines, pause=0.3, **kept):
         """A night that was killed so many seconds behind these lines, which it had answered."""
         night = self.night(**kept)
         night.begin()
         night.light(2)
-        night.typed(b"".join(lines))
+        night.type_commands(b"".join(lines))
         time.sleep(pause)
         night.kill()
         return night
@@ -70,7 +70,7 @@ class RestartTest(LiveTest):
         """A night that was killed when it had sent all that its record means: the kill itself lost
         no packet."""
         for _ in range(TRIES):
-            night = self.killed(*lines)
+            night = self.killed_night(*lines)
             if night.is_at_rest():
                 return night
         raise Wrong(f"{TRIES} kills, and none fell between two ticks")
@@ -85,9 +85,9 @@ class RestartTest(LiveTest):
         night.light()
         self.assertEnds(night)
 
-    def played(self, night, *options):
+    def replay(self, night, *options):
         """The packets that `play` sends of a night's record."""
-        ear = Ear(receiving())
+        ear = Ear(receiver_socket())
         if "--name" not in options:
             options = (*options, "--name", LIVE_NAME)
         words = ["play", night.show, "--to", address_of(ear.receiver), "--cid", CID, *options]
@@ -103,7 +103,7 @@ class RestartTest(LiveTest):
         judge = Judge(night, **source)
         figures = judge.figures()
         meant = [each.packet for each in judge.sent]
-        self.assertEqual(meant, self.played(night, *options))
+        self.assertEqual(meant, self.replay(night, *options))
         self.assertEqual(len(meant) - 1, judge.places[-1])
         record = night.record.read_bytes()
         self.assertEqual(1, len(HEAD.findall(record)))
@@ -182,7 +182,7 @@ class Kills(RestartTest):
         with open(night.record, "ab") as record:
             record.write(b"%d end\n%d tick\n" % (last + 1, next_tick(last)))
         night.begin()
-        self.assertEqual(0, night.ended())
+        self.assertEqual(0, night.end_status())
         self.assertEqual(2, self.assertOne(night).lost)
         _, _, behind = night.record.read_bytes().partition(b" end\n")
         self.assertEqual(3, behind.count(b"\n"))
@@ -207,12 +207,12 @@ class Kills(RestartTest):
 
     def test_what_is_told(self):
         """Nothing is shown again, and no fault is told."""
-        night = self.killed(b"go\nsub 1 50\n")
+        night = self.killed_night(b"go\nsub 1 50\n")
         night.begin()
         night.light()
         night.type(b"where\nback\n")
         self.assertEnds(night)
-        (first, _), (second, told) = night.told()
+        (first, _), (second, told) = night.outputs()
         self.assertEqual(["ok", "cue 1", "ok"], without_moments(first))
         where = "where cue 1 next 2 master 255 sub 1:128"
         self.assertEqual([where, "refused AtStart", "ok", "ok"], without_moments(second))
@@ -223,7 +223,7 @@ class Kills(RestartTest):
 
     def test_two_at_once(self):
         """Of processes that would take up one night at the same time one does, and no other."""
-        night = self.killed(b"go\n")
+        night = self.killed_night(b"go\n")
         several = [night.begin() for _ in range(4)]
         wait_until(lambda: [each.poll() for each in several].count(None) == 1, "one is left")
         there = next(each for each in several if each.poll() is None)
@@ -235,19 +235,19 @@ class Kills(RestartTest):
 
     def test_full_disk(self):
         """Where such a night cannot be recorded, that is told once, and the light goes on."""
-        night = self.killed(b"go\n")
+        night = self.killed_night(b"go\n")
         size = night.record.stat().st_size + 100
         night.begin(limit=size)
         night.light(40)
         wait_until(lambda: night.record.stat().st_size == size, "the disk is full")
         self.assertEnds(night)
-        told = night.told()[-1][1].splitlines()
+        told = night.outputs()[-1][1].splitlines()
         self.assertEqual(1, told.count(b"record: device fault"), told)
         self.assertTrue(night.heard[-1].packet[OPTIONS] & TERMINATED)
 
     def test_full_disk_under_a_lock(self):
         """No other process takes up a night that goes on and is recorded no more."""
-        night = self.killed(b"go\n")
+        night = self.killed_night(b"go\n")
         night.begin(limit=night.record.stat().st_size + 100)
         night.tells(b"record: device fault")
         words = [*night.words, "--resume"]
@@ -277,7 +277,7 @@ class KillsByTheScript(ByTheScript, Kills):
         except ProcessLookupError:
             pass
 
-    def stalled(self):
+    def stalled_night(self):
         """A night whose record waits for its writer, which stands still."""
         night = self.night()
         night.begin()
@@ -291,7 +291,7 @@ class KillsByTheScript(ByTheScript, Kills):
 
     def test_writer_that_stalls(self):
         """A night is not taken up as long as its record is still written, and then whole."""
-        night, writer = self.stalled()
+        night, writer = self.stalled_night()
         before = night.record.read_bytes()
         night.kill(stalls=True)
         night.ear.settle()
@@ -307,7 +307,7 @@ class KillsByTheScript(ByTheScript, Kills):
 
     def test_writer_that_ends_soon(self):
         """A night that is taken up while its record is still written begins when that is whole."""
-        night, writer = self.stalled()
+        night, writer = self.stalled_night()
         night.kill(stalls=True)
         night.begin()
         night.reads(night.processes[-1])
@@ -352,7 +352,7 @@ class Clock(RestartTest):
         """Within seconds they go on with real time: a move goes on as if nothing had happened."""
         for pause in (0, 0.4, 1.2):
             with self.subTest(pause=pause):
-                night = self.killed(b"go\n")
+                night = self.killed_night(b"go\n")
                 self.assertInRealTime(*self.taken_up(night, pause))
                 self.assertOne(night)
 
@@ -360,19 +360,19 @@ class Clock(RestartTest):
         """Of a longer time ten seconds count."""
         for shift in (-11, -HOUR):
             with self.subTest(shift=shift):
-                night = self.killed(b"go\n")
+                night = self.killed_night(b"go\n")
                 self.assertGoesOnBy(night, 10_000, shift)
                 self.assertOne(night)
 
     def test_clock_that_ran_back(self):
         """Where FILE was written later than now, nothing counts."""
-        night = self.killed(b"go\n")
+        night = self.killed_night(b"go\n")
         self.assertGoesOnBy(night, 23, HOUR)
         self.assertOne(night)
 
     def test_clock_that_runs_to_and_fro(self):
         """Twice killed and taken up thrice: one record, one stream."""
-        night = self.killed(b"go\n")
+        night = self.killed_night(b"go\n")
         for shift in (-HOUR, HOUR, -HOUR):
             os.utime(night.record, (time.time() + shift,) * 2)
             night.begin()
@@ -386,17 +386,17 @@ class Clock(RestartTest):
     def test_follow_on(self):
         """A follow-on that was due meanwhile is made, at its own moment."""
         cues = ("CUE 1", "FOLLOWON 6", "CHAN 1@50", "CUE 2", "UP 4", "CHAN 1@FL")
-        night = self.killed(b"go\n", show=text(*cues, "PATCH 1 1<1@FL"))
+        night = self.killed_night(b"go\n", show=text(*cues, "PATCH 1 1<1@FL"))
         went = moments(night.record.read_bytes(), b"go")[0]
         self.taken_up(night, shift=-8)
         self.assertOne(night)
-        shown = night.told()[-1][0].splitlines()
+        shown = night.outputs()[-1][0].splitlines()
         self.assertEqual(b"%d cue 2" % (went + 6000), shown[0])
 
     def kept_alive(self, pause):
         """A stage at rest, taken up after a pause: how long after the restart, and after the last
         packet before it, the first one came."""
-        night = self.killed(
+        night = self.killed_night(
             b"go\n", show=text("CUE 1", "CHAN 1@50", "PATCH 1 1<1@FL"), pause=0.4
         )
         time.sleep(pause)
@@ -460,7 +460,7 @@ class New(RestartTest):
             with self.subTest(content):
                 night = self.begun_in(content)
                 self.assertOne(night)
-                ((_, told),) = night.told()
+                ((_, told),) = night.outputs()
                 self.assertIn(b"record: %s is new\n" % bytes(night.record), told)
 
     def test_head_alone(self):

@@ -13,7 +13,7 @@ from typing import NamedTuple
 from program import CID, PROGRAM, run
 from restarts import HEAD, head, moments, sent_by, whole_lines
 from test_restart import SHOW, RestartTest
-from wire import address_of, received, receiving
+from wire import address_of, datagrams_at, receiver_socket
 
 OTHER = CID[:-1] + "2"
 AT_ONCE, CUT = 8, 300
@@ -38,7 +38,7 @@ class Taken(NamedTuple):
 
 def take_up(content, ticks=3):
     """Takes up a record, under a lock of its own, and kills the night after so many ticks."""
-    with tempfile.TemporaryDirectory() as name, receiving() as receiver:
+    with tempfile.TemporaryDirectory() as name, receiver_socket() as receiver:
         show, record = Path(name, "show.asc"), Path(name, "night.play")
         show.write_bytes(SHOW)
         record.write_bytes(content)
@@ -55,7 +55,7 @@ def take_up(content, ticks=3):
         status = night.poll()
         night.kill()
         _, told = night.communicate()
-        return Taken(status, told, record.read_bytes(), received(receiver, 0.02))
+        return Taken(status, told, record.read_bytes(), datagrams_at(receiver, 0.02))
 
 
 class Cuts(RestartTest):

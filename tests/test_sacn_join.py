@@ -10,7 +10,7 @@ from program import TOP, FolderTest
 UNIT = (TOP / "tools/sacn-join@.service").read_text()
 
 
-def expanded(text, instance):
+def expand(text, instance):
     """A command line as systemd has it (systemd.unit, systemd.service): `%i` is the instance,
     `%%` a percent sign, `$$` a dollar sign."""
     meant = {"%i": instance, "%%": "%", "$$": "$"}
@@ -18,13 +18,13 @@ def expanded(text, instance):
 
 
 class SacnJoin(FolderTest):
-    def asked(self, word, instance):
+    def ip_words(self, word, instance):
         """What is asked of `ip` where the unit's line of this word is run."""
         fake = self.file("ip", b'#!/bin/sh\nprintf "%s\\n" "$*"\n')
         fake.chmod(0o755)
         line = re.search(rf"(?m)^{word}=(.*)$", UNIT)[1]
         path = f"{self.folder}:{os.environ['PATH']}"
-        words = shlex.split(expanded(line, instance))
+        words = shlex.split(expand(line, instance))
         done = subprocess.run(
             words, env={"PATH": path}, capture_output=True, text=True, check=True
         )
@@ -37,6 +37,6 @@ class SacnJoin(FolderTest):
                 with self.subTest(interface=interface, group=group):
                     instance = f"{interface}-{group}"
                     joined = f"addr replace {group}/32 dev {interface} autojoin"
-                    self.assertEqual(joined, self.asked("ExecStart", instance))
+                    self.assertEqual(joined, self.ip_words("ExecStart", instance))
                     left = f"addr del {group}/32 dev {interface}"
-                    self.assertEqual(left, self.asked("ExecStop", instance))
+                    self.assertEqual(left, self.ip_words("ExecStop", instance))

@@ -167,7 +167,7 @@ class Changes(unittest.TestCase):
 
     def test_many(self):
         """Beyond twelve levels it is told how many channels more there are."""
-        found = sheet_changes.told(sheet_changes.changes({}, {n: n for n in range(1, 15)}))
+        found = sheet_changes.change_lines(sheet_changes.changes({}, {n: n for n in range(1, 15)}))
         self.assertEqual([("and", "2 channels more")], found[1:])
         self.assertEqual(12, found[0][1].count(";") + 1)
 
@@ -252,7 +252,7 @@ class Printed(SheetTest):
             with self.subTest(name):
                 # The page's own margins are 12 mm at either side.
                 inside = round((width - 24 / 25.4) * 96)
-                page = browser.opened(file.as_uri(), inside, 800)
+                page = browser.open_page(file.as_uri(), inside, 800)
                 page.call("Emulation.setEmulatedMedia", media="print")
                 page.wait("document.querySelectorAll('tr').length == 61")
                 self.assertLessEqual(page.value("document.documentElement.scrollWidth"), inside)

@@ -14,7 +14,7 @@ DARK = 250
 
 
 class Spare(RestartTest):
-    def begun(self, *lines, **kept):
+    def begin_with_spare(self, *lines, **kept):
         """A night that plays, with a spare that has taken up what is recorded."""
         night = self.night(**kept)
         night.begin()
@@ -49,7 +49,7 @@ class Spare(RestartTest):
     def test_kills(self):
         """Six processes that were killed, each followed by its spare, are one stream."""
         chance = random.Random(SEED + 5)
-        night = self.begun(b"go\n")
+        night = self.begin_with_spare(b"go\n")
         for _ in range(5):
             time.sleep(chance.uniform(0.05, 0.3))
             self.replace(night)
@@ -62,7 +62,7 @@ class Spare(RestartTest):
 
     def test_what_was_typed(self):
         """Lines that were refused, keys and comments; each line of the record is taken up."""
-        night = self.begun(HARD)
+        night = self.begin_with_spare(HARD)
         night.light(8)
         self.assertGoesOn(night)
         self.assertTaken(night, dark=DARK)
@@ -71,24 +71,24 @@ class Spare(RestartTest):
         """Where the night ends, so does its spare, and tells nothing."""
         for line in (b"end\n", b"leave\n"):
             with self.subTest(line):
-                night = self.begun(b"go\n")
+                night = self.begin_with_spare(b"go\n")
                 self.assertEqual(0, night.end(line))
                 self.assertSilent(night.spare)
 
     def test_killed_in_the_end(self):
         """A night that was killed behind its `end` is brought to its end by the spare."""
-        night = self.begun(b"go\n")
+        night = self.begin_with_spare(b"go\n")
         night.type(b"end\n")
         wait_until(lambda: moments(night.record.read_bytes(), b"end"), "it is recorded")
         night.kill()
         night.promote()
-        self.assertEqual(0, night.ended())
+        self.assertEqual(0, night.end_status())
         self.assertOne(night)
 
     def killed_between_ticks(self, *lines):
         """The same, and its spare stands still."""
         for _ in range(TRIES):
-            night = self.begun(*lines)
+            night = self.begin_with_spare(*lines)
             stand_still(night.spare.pid)
             night.kill()
             night.settle()
@@ -108,11 +108,11 @@ class Spare(RestartTest):
         self.assertEnds(night)
         # That tick, of each universe.
         self.assertEqual(2, self.assertOne(night).lost)
-        self.assertIn(b"its last line was cut", night.told()[-1][1])
+        self.assertIn(b"its last line was cut", night.outputs()[-1][1])
 
     def test_no_live_plays(self):
         """Then it goes on at once, as --resume alone does."""
-        night = self.killed(b"go\n")
+        night = self.killed_night(b"go\n")
         night.stand_by()
         night.promote()
         night.light()
@@ -121,7 +121,7 @@ class Spare(RestartTest):
 
     def test_two_spares(self):
         """One goes on, which it tells, and the other stands by for that one."""
-        night = self.begun(b"go\n")
+        night = self.begin_with_spare(b"go\n")
         spares = [night.spare, night.stands_by()]
         self.addCleanup(lambda: [each.kill() for each in spares])
         errors = [each.stderr for each in spares]
@@ -141,7 +141,7 @@ class Spare(RestartTest):
 
     def test_stands_still(self):
         """A program that is stopped is not dead: nobody sends in its place."""
-        night = self.begun(b"go\n")
+        night = self.begin_with_spare(b"go\n")
         stand_still(night.processes[-1].pid)
         night.ear.settle()
         heard = len(night.heard)

@@ -13,7 +13,7 @@ from expected.runs import play_line
 from expected.words import lines_of
 from program import CID, PROGRAM, FolderTest, packet, slots_line, text
 from test_listen import Listener
-from wire import SLOT_1, address_of, received, receiving
+from wire import SLOT_1, address_of, datagrams_at, receiver_socket
 
 # The window: how far a packet may be behind the newest that arrived before it, and how far ahead.
 BEHIND, AHEAD = 19, 217
@@ -175,7 +175,7 @@ def strangers(r: random.Random, universe: int, others: list) -> list:
     return r.choices(kinds + others, k=r.randrange(6))
 
 
-def shuffled(r: random.Random, streams: list) -> list:
+def shuffle(r: random.Random, streams: list) -> list:
     """Streams of datagrams as one, each in its order."""
     turns = [n for n, stream in enumerate(streams) for _ in stream]
     r.shuffle(turns)
@@ -187,10 +187,10 @@ class StageLight(FolderTest):
     def setUp(self):
         super().setUp()
         self.tally = Tally()
-        self.receiver = receiving()
+        self.receiver = receiver_socket()
         self.addCleanup(self.receiver.close)
 
-    def sent(self, console: Console) -> list:
+    def datagrams_of(self, console: Console) -> list:
         """The datagrams that a console sends: what its run of `play` offers to the network."""
         show = self.file("show.asc", console.show)
         with tempfile.TemporaryFile() as lines:
@@ -201,10 +201,10 @@ class StageLight(FolderTest):
             with subprocess.Popen(words, stdin=lines, stdout=null, stderr=null) as child:
                 datagrams = []
                 while child.poll() is None:
-                    datagrams += received(self.receiver, wait=0.001)
-        return datagrams + received(self.receiver, wait=0)
+                    datagrams += datagrams_at(self.receiver, wait=0.001)
+        return datagrams + datagrams_at(self.receiver, wait=0)
 
-    def shown(self, universe: int, datagrams: list) -> bytes:
+    def shown_slots(self, universe: int, datagrams: list) -> bytes:
         """The slots line of a `listen` to which these datagrams come."""
         listener = Listener(universe=universe, count=len(datagrams))
         try:
@@ -219,7 +219,7 @@ class StageLight(FolderTest):
         self.assertEqual((0, b""), (status, err))
         return out
 
-    def carried(self, r: random.Random, universe: int, sent: list) -> list:
+    def carry(self, r: random.Random, universe: int, sent: list) -> list:
         """What arrives at a receiver of a universe: of the consoles, and of strangers."""
         streams, others = [], []
         for datagrams in sent:
@@ -230,14 +230,14 @@ class StageLight(FolderTest):
             streams.append([stream[k] for k in numbers])
             # The last packet that arrives is an old one, with other slots than the newest.
             self.tally.misled += stream != [] and streams[-1][-1][SLOT_1:] != stream[-1][SLOT_1:]
-        return shuffled(r, [*streams, strangers(r, universe, others)])
+        return shuffle(r, [*streams, strangers(r, universe, others)])
 
     def assertNightShows(self, r: random.Random, consoles: list, universe: int, slots: dict):
         """What these consoles send, over a network of chance, has `listen` show these slots."""
-        datagrams = self.carried(r, universe, [self.sent(console) for console in consoles])
+        datagrams = self.carry(r, universe, [self.datagrams_of(console) for console in consoles])
         # One that is not heard ends the night: `listen` wants to hear of something.
         datagrams.append(b"end of the night")
-        self.assertEqual(slots_line(slots) + "\n", self.shown(universe, datagrams).decode())
+        self.assertEqual(slots_line(slots) + "\n", self.shown_slots(universe, datagrams).decode())
 
     def test_one_console(self):
         """Whatever the network does in the window, the slots are what the show means at the latest
@@ -299,5 +299,5 @@ class StageLight(FolderTest):
     def test_outside_the_window(self):
         """There the slots may be others: a packet that is 20 behind is taken, and shows."""
         levels = [packet(1, {1: k + 1}, k) for k in range(21)]
-        self.assertEqual(b"slots 1:21\n", self.shown(1, [levels[20], levels[1]]))
-        self.assertEqual(b"slots 1:1\n", self.shown(1, [levels[20], levels[0]]))
+        self.assertEqual(b"slots 1:21\n", self.shown_slots(1, [levels[20], levels[1]]))
+        self.assertEqual(b"slots 1:1\n", self.shown_slots(1, [levels[20], levels[0]]))

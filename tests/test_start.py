@@ -85,7 +85,7 @@ class Start(RestartTest):
 
     def test_night_that_goes_on(self):
         """A night is not begun anew in its record."""
-        night = self.killed(b"go\n")
+        night = self.killed_night(b"go\n")
         before, heard = night.record.read_bytes(), len(night.heard)
         refused = night.begin("--start", "2")
         line = refused.stderr.readline()

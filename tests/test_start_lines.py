@@ -182,7 +182,7 @@ class ByTheScript(LiveTest):
     def test_control_c(self):
         """`./cueplayer live` has control-C ignored, and it is told, be there a terminal or not."""
         self.env = os.environ | {"CUEPLAYER": str(PROGRAM)}
-        night = self.started()
+        night = self.start()
         start = [night.stderr.readline().decode().rstrip("\n") for _ in range(5)]
         self.assertEqual(f"{ENDS}; control-C does nothing", start[-1])
-        self.assertEqual(0, self.ended(night).status)
+        self.assertEqual(0, self.end_night(night).status)

@@ -20,7 +20,7 @@ class Starting(CopiedLayout):
     def assertStarts(self, script="cueplayer", **options):
         """The program runs with its words and input, and nothing else is printed."""
         self.assertEqual(SHOWN, self.run_script(script, *WORDS, **options))
-        self.assertEqual([], self.asked())
+        self.assertEqual([], self.requests())
 
     def assertFails(self, telling, script="cueplayer", **options):
         """One line on standard error says why no program is started."""
@@ -219,7 +219,7 @@ class Version(CopiedLayout):
             "sources: those of the program",
         ]
         self.assertEqual(wanted, self.version())
-        self.assertEqual([], self.asked())
+        self.assertEqual([], self.requests())
 
     def test_only_alone(self):
         self.assertEqual(

@@ -13,17 +13,25 @@ from contextlib import redirect_stderr, redirect_stdout
 
 from expected import show as shows
 from program import PROGRAM, TOP, FolderTest, text
-from storms import Player, chance_of, judged, small_network, small_night, small_show, stepped
+from storms import (
+    Player,
+    arrive_at_looks,
+    chance_of,
+    small_network,
+    small_night,
+    small_show,
+    verdicts,
+)
 from tooling import run_tool
 
 from cueplayer_tools import storm_command, storm_seen
 from cueplayer_tools.cue_list import read_show
 from cueplayer_tools.record import read_record
 from cueplayer_tools.storm_network import Cable, Network, Outage, Traffic
-from cueplayer_tools.storm_night import Console, cid_of, plan_of, ticked
+from cueplayer_tools.storm_night import Console, cid_of, plan_of, with_ticks
 from cueplayer_tools.storm_premises import premises_of, together
 from cueplayer_tools.storm_report import data
-from cueplayer_tools.storm_sweep import blown, carried
+from cueplayer_tools.storm_sweep import blown, carry
 from cueplayer_tools.storm_verdict import storm_of
 
 # So many nights, each in so many networks.
@@ -40,7 +48,7 @@ class StormTest(FolderTest):
     def plan(self, content, lines, every=25):
         file = self.file("show.asc", content)
         show = read_show(str(file))
-        return plan_of(str(file), ticked(read_record(lines), show, every), show, 1)
+        return plan_of(str(file), with_ticks(read_record(lines), show, every), show, 1)
 
     def run_storm(self, *words):
         """Runs the tool in this process: its status, and what it wrote."""
@@ -67,13 +75,13 @@ class SmallStorms(StormTest):
     """Storms of a few seconds, by chance, against the slow computation."""
 
     def assertJudged(self, plan, given, show, consoles, network):
-        traffic = carried(plan, consoles, network)
-        stepped(traffic)
+        traffic = carry(plan, consoles, network)
+        arrive_at_looks(traffic)
         storm = storm_of(plan, consoles, traffic, network)
         cids = [bytes.fromhex(cid_of(at).replace("-", "")) for at in range(len(consoles))]
         players = [Player(show, given, each, cid) for each, cid in zip(consoles, cids)]
         came = {key: each.came for key, each in traffic.items()}
-        wanted = judged(players, came, storm.first, storm.last)
+        wanted = verdicts(players, came, storm.first, storm.last)
         for found, judgement in zip(storm.verdicts, wanted, strict=True):
             stretches = [[each.first, each.until, each.off, each.dark] for each in found.stretches]
             times = (found.in_window, found.is_fresh, found.held)
@@ -92,7 +100,7 @@ class SmallStorms(StormTest):
             content = small_show(chance).encode()
             lines, last = small_night(chance)
             file = self.file("show.asc", content)
-            given = ticked(read_record(lines), read_show(str(file)), 25)
+            given = with_ticks(read_record(lines), read_show(str(file)), 25)
             given = [line for line in given if line.moment <= last + 500]
             plan = plan_of(str(file), given, read_show(str(file)), 1)
             for seed in range(NETWORKS):
@@ -129,7 +137,7 @@ class SmallStorms(StormTest):
 
 
 class Premises(unittest.TestCase):
-    def held(self, sent, came, moment):
+    def premises_at(self, sent, came, moment):
         """What holds of a console at a moment: in the window, fresh, silent."""
         changes = premises_of(Traffic(sent, came), moment)
         return tuple(changes[-1][1])[1:]
@@ -144,15 +152,17 @@ class Premises(unittest.TestCase):
             ([(0, 0), (2499, 218)], False),
             ([(0, 0), (2500, 218)], True),
         ):
-            self.assertEqual(inside, self.held(sent, came, came[-1][0])[0], came)
+            self.assertEqual(inside, self.premises_at(sent, came, came[-1][0])[0], came)
         out = [(460, 20), (461, 0)]
-        self.assertEqual((False, True), tuple(self.held([0], out, at)[0] for at in (2960, 2961)))
+        insides = tuple(self.premises_at([0], out, at)[0] for at in (2960, 2961))
+        self.assertEqual((False, True), insides)
 
     def test_fresh(self):
         """From when the newest packet sent comes first, until it is 2.5 seconds old."""
         sent, came = [0, 25], [(10, 0), (40, 1), (900, 1)]
-        found = {at: self.held(sent, [each for each in came if each[0] <= at], at)[1:] for at in
-                 (9, 10, 24, 25, 39, 40, 2539, 2540, 3399, 3400)}  # fmt: skip
+        moments = (9, 10, 24, 25, 39, 40, 2539, 2540, 3399, 3400)
+        by_then = {at: [each for each in came if each[0] <= at] for at in moments}
+        found = {at: self.premises_at(sent, by_then[at], at)[1:] for at in moments}
         fresh = {10, 24, 40, 2539}
         silent = {9, 3400}
         self.assertEqual({at: (at in fresh, at in silent) for at in found}, found)
@@ -169,44 +179,44 @@ class Premises(unittest.TestCase):
 class Networks(unittest.TestCase):
     SENT = list(range(0, 250_000, 25))
 
-    def carried(self, universe=1, console=0, **words):
+    def carry(self, universe=1, console=0, **words):
         """What a network makes of ten thousand packets."""
         cable = Cable(Network(**words), console, 0, self.SENT[-1])
         return cable.carry(universe, self.SENT)
 
     def test_same_seed(self):
         words = {"loss": 0.1, "repeat": 0.1, "most_delay": 30, "reorder": 0.1}
-        one, same = self.carried(**words), self.carried(**words)
+        one, same = self.carry(**words), self.carry(**words)
         self.assertEqual((one.came, one.lost), (same.came, same.lost))
         for other in ({"seed": 2}, {"universe": 2}, {"console": 1}):
-            self.assertNotEqual(one.lost, self.carried(**words, **other).lost)
+            self.assertNotEqual(one.lost, self.carry(**words, **other).lost)
 
     def test_rates(self):
         """As much is lost, repeated and held back as was asked for, and nothing else happens."""
-        still = self.carried()
+        still = self.carry()
         self.assertEqual([(moment, k) for k, moment in enumerate(self.SENT)], still.came)
-        self.assertEqual(({}, 0, 0), (still.lost, still.repeated, still.overtaken()))
-        lost = self.carried(loss=0.05)
+        self.assertEqual(({}, 0, 0), (still.lost, still.repeated, still.overtakes()))
+        lost = self.carry(loss=0.05)
         self.assertAlmostEqual(500, len(lost.lost), delta=100)
         self.assertEqual({k for _, k in lost.came} | set(lost.lost), set(range(10_000)))
-        self.assertAlmostEqual(1000, self.carried(repeat=0.1).repeated, delta=150)
-        late = self.carried(least_delay=2, most_delay=6).came
+        self.assertAlmostEqual(1000, self.carry(repeat=0.1).repeated, delta=150)
+        late = self.carry(least_delay=2, most_delay=6).came
         self.assertEqual({2, 3, 4, 5, 6}, {moment - self.SENT[k] for moment, k in late})
-        held = self.carried(reorder=0.1, held_back=60)
-        self.assertAlmostEqual(1000, held.overtaken(), delta=150)
+        held = self.carry(reorder=0.1, held_back=60)
+        self.assertAlmostEqual(1000, held.overtakes(), delta=150)
         self.assertEqual({0, 60}, {moment - self.SENT[k] for moment, k in held.came})
-        self.assertEqual(10_000, len(self.carried(loss=1.0).lost))
+        self.assertEqual(10_000, len(self.carry(loss=1.0).lost))
 
     def test_more_loss(self):
         """What is lost at a rate is lost at each higher one, and what comes stays as it is."""
         words = {"repeat": 0.1, "most_delay": 30}
-        few, more = (self.carried(loss=loss, **words) for loss in (0.05, 0.2))
+        few, more = (self.carry(loss=loss, **words) for loss in (0.05, 0.2))
         self.assertLess(set(few.lost), set(more.lost))
         self.assertLess(set(more.came), set(few.came))
 
     def test_bursts(self):
         """As much is lost, but many in a row."""
-        traffic = self.carried(loss=0.1, burst=200)
+        traffic = self.carry(loss=0.1, burst=200)
         self.assertAlmostEqual(1000, len(traffic.lost), delta=300)
         begin = sum(k - 1 not in traffic.lost for k in traffic.lost)
         self.assertAlmostEqual(8, len(traffic.lost) / begin, delta=2)
@@ -220,11 +230,11 @@ class Networks(unittest.TestCase):
             (Outage(100, 200, console=1), 0, 5, ()),
             (Outage(100, 200, universe=5), 1, 6, ()),
         ):
-            traffic = self.carried(universe, console, outages=(outage,))
+            traffic = self.carry(universe, console, outages=(outage,))
             self.assertEqual(dict.fromkeys(lost, outage.name()), traffic.lost)
         delayed = {"least_delay": 30, "most_delay": 30}
         node, switch = (
-            self.carried(outages=(outage,), **delayed)
+            self.carry(outages=(outage,), **delayed)
             for outage in (Outage(100, 200, universe=1), Outage(100, 200))
         )
         self.assertEqual(list(range(3, 7)), list(node.lost))
@@ -403,14 +413,14 @@ class Pages(StormTest):
 
 
 class Pictures(StormTest):
-    def drawn(self, *words):
+    def draw(self, *words):
         done = run_tool("picture", "storm", *words)
         self.assertEqual((0, ""), (done.returncode, done.stderr))
         drawn = xml.fromstring(done.stdout)
         texts = [part.text or "" for part in drawn.iter() if part.tag.endswith("}text")]
         return done.stdout, texts
 
-    def told(self, page, tool):
+    def command_in(self, page, tool):
         """The words of a command that a page tells, its files below the repository."""
         words = re.sub(r"\\\n!?", "", page)
         words = shlex.split(re.search(rf"tools/{tool} (.*)", words)[1])
@@ -418,8 +428,8 @@ class Pictures(StormTest):
 
     def test_fade(self):
         """The picture of the documents, byte for byte, as the lines of the fade tell."""
-        words = self.told((EXAMPLES / "fade.play").read_text(), "picture storm")
-        drawn, texts = self.drawn(*words)
+        words = self.command_in((EXAMPLES / "fade.play").read_text(), "picture storm")
+        drawn, texts = self.draw(*words)
         self.assertEqual((TOP / "docs/storm.svg").read_text(), drawn)
         self.assertIn("The same fade at 0, 5 and 30 percent loss", texts)
         lost = [re.fullmatch(r"(\d+) of 71 lost", each) for each in texts]
@@ -432,7 +442,7 @@ class Pictures(StormTest):
     def test_loss(self):
         """The picture of a sweep, byte for byte, as the page tells it."""
         page = OPERATING.partition("With `--sweep` it draws")[2].partition(" >loss.svg")[0]
-        drawn, texts = self.drawn(*self.told(page, "picture storm"))
+        drawn, texts = self.draw(*self.command_in(page, "picture storm"))
         self.assertEqual((TOP / "docs/loss.svg").read_text(), drawn)
         self.assertIn("never", texts)
 
@@ -440,9 +450,9 @@ class Pictures(StormTest):
         """Those that are named, else the brightest; and of a universe that is not sent none."""
         show = self.file("show.asc", LAMPS)
         lines = self.file("night.play", CUT)
-        _, texts = self.drawn(show, lines, "--loss", 5)
+        _, texts = self.draw(show, lines, "--loss", 5)
         self.assertLessEqual({"1:1", "2:1", "universe 1 wrong", "universe 2 wrong"}, set(texts))
-        _, texts = self.drawn(show, lines, "--slot", "2:1", "--console", 100, "--console", 90)
+        _, texts = self.draw(show, lines, "--slot", "2:1", "--console", 100, "--console", 90)
         self.assertIn("console 1", texts)
         self.assertNotIn("universe 1 wrong", texts)
         done = run_tool("picture", "storm", show, lines, "--slot", "3:1")
@@ -452,6 +462,6 @@ class Pictures(StormTest):
     def test_sweep(self):
         show = self.file("show.asc", LAMPS)
         lines = self.file("night.play", CUT)
-        _, texts = self.drawn(show, lines, "--sweep", "0,50", "--nights", 2, "--burst", 90)
+        _, texts = self.draw(show, lines, "--sweep", "0,50", "--nights", 2, "--burst", 90)
         self.assertIn("packets lost in bursts of 90 ms, seed 1, 2 nights each", texts)
         self.assertLessEqual({"0 %", "50 %", "never", "wrong", "of it dark"}, set(texts))

@@ -20,7 +20,7 @@ from test_failing_calls import FailingCalls
 from test_follow import FollowTest
 from test_listen import Listener
 from test_restart import RestartTest
-from wire import ReceiverTest, own_network, received
+from wire import ReceiverTest, datagrams_at, own_network
 
 SECONDS = float(os.environ.get("CUEPLAYER_CLOCK", 20))
 # How far a packet may be from its moment, in milliseconds; a clock that is a twentieth too fast is
@@ -54,7 +54,7 @@ class Clock(RestartTest):
             time.sleep(2)
         self.assertEqual(0, night.end())
         judge = Judge(night)
-        self.assertEqual(0, judge.lost())
+        self.assertEqual(0, judge.lost_packets())
         zeros = [
             each.at - judge.sent[at].moment / 1000 for each, at in zip(judge.heard, judge.places)
         ]
@@ -74,19 +74,19 @@ class Order(RestartTest, PreloadTest):
         super().setUp()
         self.notes = self.folder / "notes"
 
-    def noted(self):
+    def night_and_notes(self):
         """The notes of a night: what was recorded, what was answered, and each packet."""
-        night = self.night(env=self.preloaded(ORDER=str(self.notes)))
+        night = self.night(env=self.library_environment(ORDER=str(self.notes)))
         night.begin()
         night.light(2)
         for line in (b"go\n", b"sub 1 50\n", b"master 80\n"):
-            night.typed(line)
+            night.type_commands(line)
         self.assertEqual(0, night.end())
         return night, self.notes.read_text().splitlines()
 
     def test_record(self):
         """A tick is recorded before its packets leave, a command before it is answered."""
-        night, notes = self.noted()
+        night, notes = self.night_and_notes()
         recorded = []
         sent = answered = 0
         meant = {int(line.split()[0]): 0 for line in self.lines(night)}
@@ -134,14 +134,14 @@ class Many(ReceiverTest):
             self.assertEqual(
                 [b"%d live 1:s%d\n" % (25 * k, k % 256) for k in numbers], shown[1::2]
             )
-            came = [(each[111], each[112:]) for each in received(self.receiver, 0)]
+            came = [(each[111], each[112:]) for each in datagrams_at(self.receiver, 0)]
             self.assertEqual([(k % 256, looks[k % 2]) for k in numbers], came)
 
 
 class Long(FolderTest):
     """`listen` of many datagrams, of which it takes none."""
 
-    def heard(self, count, most=LONGEST):
+    def send_and_listen(self, count, most=LONGEST):
         """Sends as many, or as many as it can be for so many seconds, and holds its lines against
         what they must be. Answers how many were sent, and what it listens with."""
         listener = Listener(count=count)
@@ -163,12 +163,12 @@ class Long(FolderTest):
         return found
 
     def test_thousand_and_one(self):
-        sent, listener = self.heard(1001)
+        sent, listener = self.send_and_listen(1001)
         self.assertEqual((1001, (0, b"slots\n", b"")), (sent, listener.close()))
 
     def test_million(self):
         """The greatest count there is, as far as it is reached in 20 seconds."""
-        sent, listener = self.heard(DATAGRAMS)
+        sent, listener = self.send_and_listen(DATAGRAMS)
         print(f"    {sent} datagrams")
         self.assertGreater(sent, 10_000)
         if sent == DATAGRAMS:
@@ -233,7 +233,7 @@ class Processor(FollowTest):
     """A program that waits takes next to nothing of a processor, and a night goes on with its
     ticks."""
 
-    def taken(self, *processes):
+    def processor_shares(self, *processes):
         """What share of a processor each took for some seconds, and how often a second it
         slept."""
         before, at = [processor_time(each) for each in processes], time.monotonic()
@@ -259,7 +259,7 @@ class Processor(FollowTest):
         self.addCleanup(listener.abandon)
         nights = (idle.processes[-1], backup.processes[-1], ended.processes[-1], spare)
         heard = len(idle.heard)
-        shares, slept = self.taken(*nights, listener.child)
+        shares, slept = self.processor_shares(*nights, listener.child)
         names = ("idle", "backup", "input ended", "spare", "listen")
         told = {name: f"{100 * share:.1f} %" for name, share in zip(names, shares)}
         print(f"    {told}")
@@ -304,7 +304,7 @@ class Reasons(FailingCalls):
         errno.EIO: "the system refused",
     }
 
-    def told(self, words, stdin, *failures):
+    def messages_of(self, words, stdin, *failures):
         """The status, and all that is told."""
         done = subprocess.run(
             [PROGRAM, *words], input=stdin, capture_output=True, env=self.environment(*failures)
@@ -314,14 +314,14 @@ class Reasons(FailingCalls):
     def test_writes(self):
         for error, reason in self.WRITES.items():
             with self.subTest(errno.errorcode[error]):
-                told = self.told(["check", self.show], b"", ("write", 1, 9, error))
+                told = self.messages_of(["check", self.show], b"", ("write", 1, 9, error))
                 self.assertEqual((5, f"device fault\nstandard output: {reason}\n"), told)
 
     def test_sends(self):
         words = ["play", self.show, "--to", self.to, "--cid", CID]
         for error, reason in self.SENDS.items():
             with self.subTest(errno.errorcode[error]):
-                told = self.told(words, b"0 tick\n", ("sendto", 1, 1, error))
+                told = self.messages_of(words, b"0 tick\n", ("sendto", 1, 1, error))
                 self.assertEqual((5, f"lost 1\n{self.to}: {reason}\n"), told)
 
     def test_files(self):
@@ -332,5 +332,5 @@ class Reasons(FailingCalls):
             (self.show / "below", "a part of its path is no directory"),
         ):
             with self.subTest(name):
-                told = self.told(["check", name], b"")
+                told = self.messages_of(["check", name], b"")
                 self.assertEqual((5, f"device fault\n{name}: {reason}\n"), told)

@@ -6,7 +6,7 @@ import subprocess
 import inputs
 from expected import targets as expected
 from program import CID, PROGRAM, FolderTest, packet, run, text
-from wire import received, receiving
+from wire import datagrams_at, receiver_socket
 
 SHOW = text("CUE 1", "UP 0", "CHAN 1@H80", "PATCH 1 1<1@FL 1<513@FL")
 ONE_TICK = b"0 goto 1\n10 tick\n"
@@ -25,7 +25,7 @@ TWICE_IN_A_GROUP = "has the target 239.255.0.1:5568 twice"
 class TargetTest(FolderTest):
     SHOW = SHOW
 
-    def refused(self, *words):
+    def remark_on(self, *words):
         """The remark of both jobs on these words. Nothing is printed, and no record is made."""
         told = set()
         record = self.folder / "night.play"
@@ -60,8 +60,8 @@ class Words(TargetTest):
             with self.subTest(word):
                 self.assertIsNone(expected.target(word))
                 told = f"--to `{word}`: {TARGET}"
-                self.assertEqual(told, self.refused(f"--to={word}"))
-                self.assertEqual(told, self.refused(*to, f"--to={word}", "--to=y"))
+                self.assertEqual(told, self.remark_on(f"--to={word}"))
+                self.assertEqual(told, self.remark_on(*to, f"--to={word}", "--to=y"))
 
     def test_source(self):
         for name, form, *words in (
@@ -72,7 +72,7 @@ class Words(TargetTest):
                 with self.subTest(name=name, word=word):
                     letters = (chr(byte) for byte in word.encode())
                     shown = "".join(each if " " <= each <= "~" else "?" for each in letters)
-                    told = self.refused("--to=127.0.0.1", f"--{name}={word}")
+                    told = self.remark_on("--to=127.0.0.1", f"--{name}={word}")
                     self.assertEqual(f"--{name} `{shown}`: {form}", told)
 
     def test_given_twice(self):
@@ -85,7 +85,7 @@ class Words(TargetTest):
 
     def test_any_route(self):
         """It goes with a card."""
-        told = self.refused("--to=127.0.0.1", "--any-route")
+        told = self.remark_on("--to=127.0.0.1", "--any-route")
         form = "any route goes beside a card: --interface CARD names it"
         self.assertRegex(told, rf"^--any-route( `true`)?: {form}$")
 
@@ -100,7 +100,7 @@ class Words(TargetTest):
             (("239.255.0.0", "1=239.255.0.0", "1=239.255.0.1"), f"universe 1 {TWICE_IN_A_GROUP}"),
         ):
             with self.subTest(words):
-                self.assertEqual(told, self.refused(*(f"--to={word}" for word in words)))
+                self.assertEqual(told, self.remark_on(*(f"--to={word}" for word in words)))
 
     def test_base(self):
         """Universes are those that are sent."""
@@ -108,13 +108,13 @@ class Words(TargetTest):
             (("127.0.0.1", "1=127.0.0.2"), "--to names universe 1: the show does not have it"),
             (("7=127.0.0.1",), f"universe 8 {NO_TARGET}"),
         ):
-            self.assertEqual(told, self.refused("--base=7", *(f"--to={word}" for word in words)))
+            self.assertEqual(told, self.remark_on("--base=7", *(f"--to={word}" for word in words)))
 
     def test_count(self):
         """At most 64 targets."""
         words = [f"--to=127.0.0.1:{6000 + port}" for port in range(65)]
         told = "--to `127.0.0.1:6064`: a night has at most 64 targets"
-        self.assertEqual(told, self.refused(*words))
+        self.assertEqual(told, self.remark_on(*words))
         done = run("play", self.show, "--cid", CID, *words[:64], stdin=ONE_TICK)
         self.assertEqual(0, done.status)
 
@@ -131,7 +131,7 @@ class Chance(TargetTest):
 
     def setUp(self):
         super().setUp()
-        self.receivers = [receiving(f"127.0.0.{last}") for last in (1, 1, 2, 3)]
+        self.receivers = [receiver_socket(f"127.0.0.{last}") for last in (1, 1, 2, 3)]
         for each in self.receivers:
             self.addCleanup(each.close)
         self.ports = [each.getsockname() for each in self.receivers]
@@ -158,7 +158,7 @@ class Chance(TargetTest):
         lacking = [word for word, each in zip(words, named) if each is None]
         wrong = f"--to `{lacking[0]}`: {TARGET}" if lacking else expected.misfit(on_wire, named)
         if wrong:
-            self.assertEqual(wrong, self.refused("--base", str(base), *options))
+            self.assertEqual(wrong, self.remark_on("--base", str(base), *options))
             return False
         out = run("play", self.show, "--cid", CID, "--base", str(base), *options, stdin=ONE_TICK)
         shown = "10 live" + "".join(f" {universe}:s0" for universe in on_wire)
@@ -166,7 +166,7 @@ class Chance(TargetTest):
         for receiver, at in zip(self.receivers, self.ports):
             addresses = {n: expected.addresses(n, named) for n in on_wire}
             here = [
-                n for n in on_wire for to in addresses[n] if to.spelled() == "{}:{}".format(*at)
+                n for n in on_wire for to in addresses[n] if to.text() == "{}:{}".format(*at)
             ]
-            self.assertEqual([packet(n, {1: 128}) for n in here], received(receiver, 0))
+            self.assertEqual([packet(n, {1: 128}) for n in here], datagrams_at(receiver, 0))
         return True

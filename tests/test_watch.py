@@ -8,8 +8,8 @@ import uuid
 import inputs
 import tooling  # noqa: F401  (it has the tools' folder on the path)
 from expected import watch as expected
-from program import CID, DEVICE_FAULT, PROGRAM, UNFIT, ProgramTest, packet, run, text, told
-from worked import watched, with_examples
+from program import CID, DEVICE_FAULT, PROGRAM, UNFIT, ProgramTest, messages_in, packet, run, text
+from worked import watch_example, with_examples
 
 from cueplayer_tools.conform.packets import discovery_packet, synchronization_packet
 
@@ -31,7 +31,7 @@ def expected_outcome(lines, universes):
 @with_examples("moment", "datagram", "printed")
 class Watch(ProgramTest):
     def assertExample(self, name):
-        lines, printed = watched(name)
+        lines, printed = watch_example(name)
         self.assertRuns(["watch", "1", "2"], lines, out=printed)
 
     def assertWatches(self, lines, *universes):
@@ -139,5 +139,5 @@ class Watch(ProgramTest):
         for options in ({"stdin": folder}, {"preexec_fn": lambda: os.close(0)}):
             done = subprocess.run(words, capture_output=True, timeout=60, **options)
             self.assertEqual(
-                (5, b"", DEVICE_FAULT), (done.returncode, done.stdout, told(done.stderr))
+                (5, b"", DEVICE_FAULT), (done.returncode, done.stdout, messages_in(done.stderr))
             )

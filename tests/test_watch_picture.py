@@ -2,12 +2,12 @@
 
 import unittest
 
-from watch_picture import PICTURE, drawn, svg
+from watch_picture import PICTURE, draw, svg
 
 
 class Pictured(unittest.TestCase):
     def test_screen(self):
-        self.assertEqual(svg(drawn()), PICTURE.read_text(), "tests/watch_picture.py draws it anew")
+        self.assertEqual(svg(draw()), PICTURE.read_text(), "tests/watch_picture.py draws it anew")
 
 
 if __name__ == "__main__":

@@ -86,7 +86,7 @@ class Kept(FolderTest):
                 each.datagram(moment, datagram)
         return moment + 2_600
 
-    def rehearsed(self, script):
+    def rehearse(self, script):
         """What each receiver answered, by its universe: its slots at each look, and what it
         ignored."""
         lines = script.decode().splitlines()
@@ -106,7 +106,7 @@ class Kept(FolderTest):
         return slots, ignored
 
     def assertAgree(self, record, script):
-        slots, ignored = self.rehearsed(script)
+        slots, ignored = self.rehearse(script)
         words = ["watch", *map(str, ON_TRIAL)]
         done = run(*words, stdin=record)
         self.assertEqual((0, b""), (done.status, done.err))
@@ -150,7 +150,7 @@ class Kept(FolderTest):
         self.assertEqual(1, len(told))
         self.assertRegex(told[0], r"short\.script is full: a script has at most 16 MiB$")
         with open(name, "rb") as kept:
-            slots, _ = self.rehearsed(kept.read())
+            slots, _ = self.rehearse(kept.read())
         self.assertEqual("slots 1:1", slots[200, 1])
 
     def test_files_that_are_there(self):
@@ -686,7 +686,7 @@ class OnTheStage(ToolTest):
 class Others(unittest.TestCase):
     """What the programs of other makers send."""
 
-    def seen(self, peer, *tools):
+    def source_lines(self, peer, *tools):
         """The source and a level of it, as the tool told them."""
         if missing := [each for each in (*tools, "ip") if not shutil.which(each)]:
             self.skipTest(f"not there: {', '.join(missing)}")
@@ -698,12 +698,12 @@ class Others(unittest.TestCase):
         return done.stdout.splitlines()
 
     def test_open_lighting(self):
-        source, slots = self.seen("ola", "olad", "ola_dev_info", "ola_patch", "setpriv")
+        source, slots = self.source_lines("ola", "olad", "ola_dev_info", "ola_patch", "setpriv")
         self.assertRegex(source, r"^\d+ 1 source .*OLA.* [0-9a-f-]{36} priority 100$")
         self.assertRegex(slots, r"^\d+ 1 slots 1:200$")
 
     def test_qlcplus(self):
-        source, slots = self.seen("qlcplus", "qlcplus")
+        source, slots = self.source_lines("qlcplus", "qlcplus")
         self.assertRegex(
             source, r"^\d+ 1001 source Q Light Controller.* [0-9a-f-]{36} priority 100$"
         )

@@ -6,7 +6,7 @@ import subprocess
 
 import inputs
 from expected import live
-from nights import Typed, answers, expected, play_night, play_nights
+from nights import Typed, answers, expected_lines, play_night, play_nights
 from program import PROGRAM, text
 from test_live import LiveTest, without_moments
 from wire import own_network
@@ -39,7 +39,7 @@ def a_command(r, masters):
     level = r.choice([*inputs.LEVELS, "0", "0"])
     if words == ["end"] or r.random() < 0.6:
         words = [*r.choice(masters).split(), level]
-    return inputs.spelled(r, words, odd=0)
+    return inputs.spelling(r, words, odd=0)
 
 
 def asking_night(r):
@@ -65,7 +65,7 @@ class Where(LiveTest):
         "CUE 1", "FOLLOWON .2", "CUE 4.5", "SUB 3", "GROUP 1", "GROUP 12", "PATCH 1 1<1@FL"
     )
 
-    def asked(self, night, word=b"where\n"):
+    def ask(self, night, word=b"where\n"):
         """What `where` tells, without its moment."""
         night.stdin.write(word)
         (line,) = without_moments(night.stdout.readline())
@@ -77,7 +77,7 @@ class Where(LiveTest):
         nights, kinds = zip(*(asking_night(r) for _ in range(NIGHTS)))
         for (typed, left), typed_kinds in zip(play_nights(nights), kinds):
             self.assertEqual(0, left.status, left.err)
-            self.assertEqual(expected(typed.show, left.record, left.shown), left.shown)
+            self.assertEqual(expected_lines(typed.show, left.record, left.shown), left.shown)
             came = answers(left.shown)
             # Behind the last one the light goes down, and the streams end.
             in_order = ["where" if word == "where" else "answer" for word, _ in came]
@@ -88,29 +88,29 @@ class Where(LiveTest):
             self.assertEqual(COMMANDS + 2, len(given))
 
     def test_as_an_operator_asks(self):
-        night = self.begun("--record", self.folder / "night.play")
-        self.assertEqual("where next 1 master 255", self.asked(night))
-        self.told(night, b"sub 3 50\n", pause=0)
-        self.told(night, b"group 12 FL\n", pause=0)
-        self.told(night, b"group 1 1\n", pause=0)
+        night = self.begin_night("--record", self.folder / "night.play")
+        self.assertEqual("where next 1 master 255", self.ask(night))
+        self.type_line(night, b"sub 3 50\n", pause=0)
+        self.type_line(night, b"group 12 FL\n", pause=0)
+        self.type_line(night, b"group 1 1\n", pause=0)
         up = "master 255 sub 3:128 group 1:3 group 12:255"
-        self.assertEqual(f"where next 1 {up}", self.asked(night))
-        self.told(night, b"go\n", pause=0)
+        self.assertEqual(f"where next 1 {up}", self.ask(night))
+        self.type_line(night, b"go\n", pause=0)
         self.assertEqual(["cue 1"], without_moments(night.stdout.readline()))
         self.assertEqual(["cue 4.5"], without_moments(night.stdout.readline()))
-        self.told(night, b"master 0\n", pause=0)
-        self.told(night, b"sub 3 0\n", pause=0)
-        self.told(night, b"go\n", reply="refused AtEnd", pause=0)
-        self.assertEqual("where cue 4.5 master 0 group 1:3 group 12:255", self.asked(night))
-        self.assertEqual(0, self.ended(night).status)
+        self.type_line(night, b"master 0\n", pause=0)
+        self.type_line(night, b"sub 3 0\n", pause=0)
+        self.type_line(night, b"go\n", reply="refused AtEnd", pause=0)
+        self.assertEqual("where cue 4.5 master 0 group 1:3 group 12:255", self.ask(night))
+        self.assertEqual(0, self.end_night(night).status)
         record = (self.folder / "night.play").read_bytes()
         self.assertNotIn(b"where", record)
 
     def test_show_without_cues(self):
         self.show.write_bytes(text("PATCH 1 1<1@FL"))
-        night = self.begun()
-        self.assertEqual("where master 255", self.asked(night))
-        self.ended(night)
+        night = self.begin_night()
+        self.assertEqual("where master 255", self.ask(night))
+        self.end_night(night)
 
     def test_all_masters(self):
         """The longest line there is comes whole, into a file and through a pipe."""
@@ -123,7 +123,7 @@ class Where(LiveTest):
         left = play_night(Typed(show, ((0, typed),)))
         self.assertEqual(0, left.status, left.err)
         self.show.write_bytes(show)
-        night = self.begun()
+        night = self.begin_night()
         out, _ = night.communicate(typed, timeout=30)
         for lines in (left.shown, out.decode().splitlines()):
             told = [each.partition(" ")[2] for each in lines if " where " in each]

@@ -10,13 +10,13 @@ from program import TOP
 
 sys.path.insert(0, str(TOP / "dev"))
 
-from generators.wrong_programs import FOLDER, edited, wrong_programs  # noqa: E402
+from generators.wrong_programs import FOLDER, edited_files, wrong_programs  # noqa: E402
 
 # The crates of which no contract says more than that they are safe and end.
 SHELL = ("system_devices/src/", "cueplayer/src/")
 
 
-def found(name: str) -> type | object:
+def find(name: str) -> type | object:
     """What has this name: a module of tests, a class in it or a test in that."""
     module, *parts = name.split(".")
     thing: object = importlib.import_module(module)
@@ -31,7 +31,7 @@ class WrongPrograms(unittest.TestCase):
         self.assertTrue(wrong_programs())
         for program in wrong_programs():
             with self.subTest(program.name):
-                self.assertTrue(edited(program, TOP / "crates"))
+                self.assertTrue(edited_files(program, TOP / "crates"))
                 self.assertTrue(all(edit.file.startswith(SHELL) for edit in program.edits))
 
     def test_tests_are_there(self) -> None:
@@ -40,7 +40,7 @@ class WrongPrograms(unittest.TestCase):
                 self.assertTrue(program.tests)
                 for name in program.tests:
                     self.assertTrue(name.startswith("test_"))
-                    self.assertTrue(found(name))
+                    self.assertTrue(find(name))
 
     def test_no_two_are_the_same(self) -> None:
         """Each tells in words of its own what is wrong, and has edits of its own."""

@@ -42,7 +42,7 @@ def came() -> list[tuple[int, bytes, str]]:
     return datagrams
 
 
-def drawn() -> Picture:
+def draw() -> Picture:
     """What the tool shows behind it, by what `cueplayer watch` says of the datagrams."""
     watched, rates = Watched([1, 2, 3, 4]), Rates()
     datagrams = came()
@@ -85,4 +85,4 @@ def svg(screen: Picture) -> str:
 
 
 if __name__ == "__main__":
-    PICTURE.write_text(svg(drawn()))
+    PICTURE.write_text(svg(draw()))

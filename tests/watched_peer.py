@@ -37,7 +37,7 @@ def make_link():
         subprocess.run(["ip", *words.split()], check=True)
 
 
-def watching(kept, *words):
+def watch(kept, *words):
     """The lines of the tool."""
     words = [sys.executable, TOOLS / "watch", "--lines", *words]
     child = subprocess.Popen(words, stdout=subprocess.PIPE, text=True)
@@ -64,7 +64,7 @@ def play(level, lines, universe):
 
 
 def of_open_lighting(kept):
-    lines = watching(kept, "1", "--interface", "stage")
+    lines = watch(kept, "1", "--interface", "stage")
     daemon = Daemon(1, 1)
     kept.callback(daemon.close)
     daemon.patch(0, 1)
@@ -73,7 +73,7 @@ def of_open_lighting(kept):
 
 def of_qlcplus(kept):
     universe = 1 + FURTHER
-    lines = watching(kept, str(universe), "--port", str(READ_AT[1]), "--interface", "lo")
+    lines = watch(kept, str(universe), "--port", str(READ_AT[1]), "--interface", "lo")
     peer = QlcPlus(1)
     kept.callback(peer.close)
     sockets = Sockets(GROUPS, source=HERE)

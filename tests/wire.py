@@ -17,7 +17,7 @@ SEQUENCE, OPTIONS, SLOT_1 = 111, 112, 126
 TERMINATED = 0x40
 
 
-def receiving(host="127.0.0.1"):
+def receiver_socket(host="127.0.0.1"):
     """A socket with room for what a test sends."""
     receiver = socket.socket(socket.AF_INET, socket.SOCK_DGRAM)
     receiver.setsockopt(socket.SOL_SOCKET, socket.SO_RCVBUF, 1 << 22)
@@ -42,7 +42,7 @@ def address_of(receiver):
     return "{}:{}".format(*receiver.getsockname())
 
 
-def received(receiver, wait=0.1):
+def datagrams_at(receiver, wait=0.1):
     """The datagrams that have come to a socket, until none comes for so many seconds."""
     datagrams = []
     while select.select([receiver], [], [], wait)[0]:
@@ -89,10 +89,10 @@ class ReceiverTest(FolderTest):
 
     def setUp(self):
         super().setUp()
-        self.receiver = receiving()
+        self.receiver = receiver_socket()
         self.addCleanup(self.receiver.close)
         self.to = address_of(self.receiver)
 
     def came(self, wait=0.1):
         """The datagrams that have come since the last look."""
-        return received(self.receiver, wait)
+        return datagrams_at(self.receiver, wait)

@@ -146,7 +146,7 @@ def datagram_in(found):
     return bytes(sent[: found.get("cut")]) + bytes_of(found.get("behind", []))
 
 
-def heard(name):
+def listen_example(name):
     """The datagrams of an example, and what `listen` prints of them."""
     *rows, last = table(name).rows
     lines = [f"{number} {row.cells['reply']}" for number, row in enumerate(rows, 1)]
@@ -154,7 +154,7 @@ def heard(name):
     return datagrams, text(*lines, last.cells["reply"])
 
 
-def watched(name):
+def watch_example(name):
     """The lines of an example, and what `watch` prints of them."""
     lines, printed = [], []
     for row in table(name).rows:
@@ -164,7 +164,7 @@ def watched(name):
     return text(*lines), text(*printed)
 
 
-def numbered(name, column):
+def replies_by_number(name, column):
     """Each number that an example's rows name, alone or as `FIRST to LAST`, with the reply of its
     row."""
     found = {}

@@ -117,7 +117,7 @@ def refusal(above: str) -> str:
     return re.sub(r"\[(`[^`]*`)\](?:\([^)]*\))?", r"\1", told)
 
 
-def exported(crate: Path) -> set[str]:
+def exports(crate: Path) -> set[str]:
     """The names that a crate's library exports; a program has none."""
     file = crate / "src/lib.rt"
     library = file.read_text() if file.exists() else ""
@@ -160,7 +160,7 @@ def calls_in(file: Path, public_names: set[str]) -> Iterator[Call]:
 
 def calls_of(crate: Path) -> list[Call]:
     """The public calls of a crate, by their names, and its laws behind them."""
-    names, calls = exported(crate), []
+    names, calls = exports(crate), []
     for file in (crate / "src").rglob("*.rt"):
         if "tests" not in file.relative_to(crate).as_posix():
             calls += [(file.name in LAWS, call) for call in calls_in(file, names)]
@@ -179,7 +179,7 @@ def all_calls() -> dict[str, list[Call]]:
     return {name: calls for name, calls in found.items() if calls}
 
 
-def listed(page: str) -> slice:
+def tables_place(page: str) -> slice:
     """The page's tables of calls: from the first crate to the next chapter."""
     begin = page.index("\n### ", page.index("\n## Each public call\n")) + 1
     return slice(begin, page.index("\n## ", begin) + 1)
@@ -188,7 +188,7 @@ def listed(page: str) -> slice:
 def rows(page: str) -> Iterator[tuple[str, str, tuple[str, str]]]:
     """The rows of the page, each as its crate, its call and its last two cells."""
     crate = ""
-    for line in page[listed(page)].splitlines():
+    for line in page[tables_place(page)].splitlines():
         if line.startswith("### "):
             crate = line[4:]
         elif line.startswith("| `"):
@@ -209,5 +209,5 @@ def tables(page: str) -> str:
 def page() -> str:
     """The page, with its tables as they have to be."""
     written = PAGE.read_text()
-    place = listed(written)
+    place = tables_place(written)
     return written[: place.start] + tables(written) + written[place.stop :]

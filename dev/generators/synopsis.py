@@ -82,7 +82,7 @@ def manual_text(text: str) -> str:
     """A sentence of the help as the lines of a manual page, the names of options in bold."""
     lines = []
     for sentence in re.split(r"(?<=\.) ", f"{text}."):
-        for line in filled(sentence, MANUAL_COLUMNS):
+        for line in fill(sentence, MANUAL_COLUMNS):
             marked = re.sub(r"--[a-z-]+|-(?= )", lambda found: bold(found[0]), line)
             lines.append(re.sub(r"^([.'])", r"\\&\1", marked))
     return "".join(f"{line}\n" for line in lines)
@@ -106,7 +106,7 @@ def case(name: str, comment: str, rows: dict[str, list[str]]) -> str:
             patterns.setdefault(" ".join(words), []).append(key)
     lines = [f"# {comment}", f"{name}() {{", "    case $1 in"]
     for row, keys in patterns.items():
-        first, *more = filled(f"{' | '.join(keys)}) echo {row} ;;", SCRIPT_COLUMNS - 10)
+        first, *more = fill(f"{' | '.join(keys)}) echo {row} ;;", SCRIPT_COLUMNS - 10)
         lines.append(" " * 8 + first)
         if more:
             lines[-1] += " \\"
@@ -114,14 +114,14 @@ def case(name: str, comment: str, rows: dict[str, list[str]]) -> str:
     return "".join(f"{line}\n" for line in [*lines, "    esac", "}"])
 
 
-def filled(words: str, columns: int) -> list[str]:
+def fill(words: str, columns: int) -> list[str]:
     """The words as lines of at most so many columns."""
     return textwrap.wrap(words, columns, break_on_hyphens=False, break_long_words=False)
 
 
 def words_of(variable: str, words: list[str]) -> str:
     """A variable of bash that has these words."""
-    first, *more = filled(" ".join(words), SCRIPT_COLUMNS - len(variable) - 5)
+    first, *more = fill(" ".join(words), SCRIPT_COLUMNS - len(variable) - 5)
     return "".join(
         [f'{variable}="{first}"\n', *(f'{variable}+=" {line}"\n' for line in more)]
     )

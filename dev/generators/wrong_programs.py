@@ -79,7 +79,7 @@ def wrong_programs() -> list[WrongProgram]:
     return [read_program(path) for path in sorted(FOLDER.glob("*.edit"))]
 
 
-def edited(program: WrongProgram, crates: Path) -> dict[Path, str]:
+def edited_files(program: WrongProgram, crates: Path) -> dict[Path, str]:
     """The files of crates/ that a wrong program changes, as they are then."""
     texts: dict[Path, str] = {}
     for edit in program.edits:

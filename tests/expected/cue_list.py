@@ -5,7 +5,7 @@ import json
 HEAD = "     cue       up    delay     down    delay   follow  channels  label\n"
 
 
-def spelled(thousandths):
+def decimal(thousandths):
     """A decimal without zeros at its end."""
     whole, parts = divmod(thousandths, 1000)
     return f"{whole}.{parts:03}".rstrip("0").rstrip(".")
@@ -13,7 +13,7 @@ def spelled(thousandths):
 
 def number(thousandths):
     """The same as a number of JSON."""
-    return json.loads(spelled(thousandths))
+    return json.loads(decimal(thousandths))
 
 
 def label_cell(label):
@@ -23,10 +23,10 @@ def label_cell(label):
 
 
 def cue_line(n, cue, label):
-    times = [spelled(time) for time in (*cue.rises(), *cue.falls())]
-    times.append("-" if cue.follow is None else spelled(cue.follow))
+    times = [decimal(time) for time in (*cue.rises(), *cue.falls())]
+    times.append("-" if cue.follow is None else decimal(cue.follow))
     cells = "".join(time.rjust(9) for time in times)
-    return f"{spelled(n):>8}{cells}{len(cue.levels):10}{label_cell(label)}\n"
+    return f"{decimal(n):>8}{cells}{len(cue.levels):10}{label_cell(label)}\n"
 
 
 def universes(show):
@@ -54,7 +54,7 @@ def rate(name, time, delay):
 
 def cue_object(n, cue, label):
     return {
-        "number": spelled(n),
+        "number": decimal(n),
         "label": label.decode("latin-1"),
         **rate("up", *cue.rises()),
         **rate("down", *cue.falls()),

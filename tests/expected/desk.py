@@ -122,7 +122,7 @@ class Desk:
         if self.endings is not None:
             return "Ended"
         due = self.due(moment)
-        refusal, move = self.decided(asked, due[-1][0] if due else self.cue)
+        refusal, move = self.decision(asked, due[-1][0] if due else self.cue)
         if refusal:
             return refusal
         self.make(due)
@@ -137,7 +137,7 @@ class Desk:
         self.last = moment
         return None
 
-    def decided(self, asked, current):
+    def decision(self, asked, current):
         """The refusal of a command, and the cue that it moves to."""
         name = asked[0]
         if name == "go":

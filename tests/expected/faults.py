@@ -4,7 +4,7 @@
 import sys
 from pathlib import Path
 
-from .notes import on_encoding, shown
+from .notes import on_encoding, shown_text
 from .show import NOBODY, PRIMARY, TIMED, Cue, LineFault, Reader, read
 from .words import cue_number, level, lines_with_words, number, time
 
@@ -40,7 +40,7 @@ ROLES = {
 }
 
 
-def blamed(words, fault):
+def word_at_fault(words, fault):
     """The first word that has a line's fault by itself, or None."""
     first, turn = ROLES[words[0].upper()]
     for place, word in enumerate(words[1:]):
@@ -51,9 +51,9 @@ def blamed(words, fault):
 
 
 def faulty_line(n, line, words, fault):
-    word = blamed(words, fault)
-    at = "" if word is None else f" at `{shown(word)}`"
-    return f"line {n}: {fault}{at}: {shown(line)}"
+    word = word_at_fault(words, fault)
+    at = "" if word is None else f" at `{shown_text(word)}`"
+    return f"line {n}: {fault}{at}: {shown_text(line)}"
 
 
 def owner_below(words):

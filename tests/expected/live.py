@@ -1,6 +1,6 @@
 """What `live` shows of a night, by the lines of its record (FORMATS.md, "The lines of live")."""
 
-from .cue_list import spelled
+from .cue_list import decimal
 from .desk import Desk, command
 from .follow_on import next_cue
 from .words import moment, words_of
@@ -32,7 +32,7 @@ class Night:
         answer = self.answer(at, words)
         moves = self.desk.moves[before:]
         shown = [] if answer is None else [f"{at} {answer}"]
-        return shown + [f"{moved} cue {spelled(cue)}" for cue, moved in moves]
+        return shown + [f"{moved} cue {decimal(cue)}" for cue, moved in moves]
 
     def answer(self, at, words):
         """What is shown of a call itself; nothing of a tick that was made and lost no packet."""
@@ -47,8 +47,8 @@ class Night:
         desk = self.desk
         current, after = desk.cue, next_cue(self.show, desk.cue)
         said = [f"{at} where"]
-        said += [] if current is None else [f"cue {spelled(current)}"]
-        said += [] if after is None else [f"next {spelled(after)}"]
+        said += [] if current is None else [f"cue {decimal(current)}"]
+        said += [] if after is None else [f"next {decimal(after)}"]
         said += [f"master {desk.grand}"]
         for kind in ("sub", "group"):
             said += [
@@ -57,7 +57,7 @@ class Night:
         return " ".join(said)
 
 
-def shown(show, record, asked=(), base=1):
+def shown_lines(show, record, asked=(), base=1):
     """All that a night shows, beside `help` and lost packets.
 
     The record does not say when `where` was asked. So `asked` has of each, in order, how many

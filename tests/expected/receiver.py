@@ -50,7 +50,7 @@ def has_length(datagram):
     )
 
 
-def parsed(datagram):
+def parse(datagram):
     """The data packet at the front of a datagram, or the name of its fault."""
     if len(datagram) < 126:
         return "Short"
@@ -86,7 +86,7 @@ class Receiver:
 
     def take(self, moment, datagram):
         """The reply to a datagram, as it is printed."""
-        data = parsed(datagram)
+        data = parse(datagram)
         if isinstance(data, str):
             return "ignored Unreadable " + data
         if data.universe != self.universe:

@@ -9,7 +9,7 @@ from . import script as scripts
 from . import show as shows
 from .desk import FULL, Desk, command, slot_byte
 from .receiver import Receiver
-from .script import ticked
+from .script import tick_text
 from .words import lines_of, moment, uuid, words_of
 
 LONGEST_LINE = 200
@@ -23,7 +23,7 @@ class Answer(NamedTuple):
     packets: tuple = ()
 
 
-def refused(status, text, printed=(), packets=()):
+def refusal(status, text, printed=(), packets=()):
     return Answer(status, printed_text(printed), text.encode() + b"\n", tuple(packets))
 
 
@@ -42,7 +42,7 @@ def wire(universe, sent, console):
 def check(text):
     show = shows.read(text)
     if isinstance(show, str):
-        return refused(3, show)
+        return refusal(3, show)
     tables = f"cues {len(show.cues)} subs {len(show.subs)} groups {len(show.groups)}"
     return Answer(
         0,
@@ -52,7 +52,7 @@ def check(text):
 
 def cues(text):
     show = shows.read(text)
-    return refused(3, show) if isinstance(show, str) else Answer(0, cue_list.table(show).encode())
+    return refusal(3, show) if isinstance(show, str) else Answer(0, cue_list.table(show).encode())
 
 
 def full(text, cue):
@@ -60,9 +60,9 @@ def full(text, cue):
     their place; `cue` is in thousandths."""
     show = shows.read(text)
     if isinstance(show, str):
-        return refused(3, show)
+        return refusal(3, show)
     if cue not in show.cues:
-        return refused(3, "show: NoCue")
+        return refusal(3, "show: NoCue")
     levels = show.cues[cue].levels
     frames = {k: {} for k in show.universes()}
     for dimmer, (channel, patch) in show.patch.items():
@@ -88,7 +88,7 @@ def slots(text, cue, base=1):
     if isinstance(frames, Answer):
         return frames
     if base + max(frames, default=0) > 63999:
-        return refused(2, "base: Universe")
+        return refusal(2, "base: Universe")
     lines = []
     for k, levels in frames.items():
         lines += [f"universe {base + k}"]
@@ -108,7 +108,7 @@ def play_line(desk, line):
     if words[1].lower() == b"tick" and len(words) == 2:
         answer = desk.tick(at)
         sent = [] if isinstance(answer, str) else [(u, p) for u, p in answer[1] if p]
-        return f"{at} {ticked(answer)}", sent
+        return f"{at} {tick_text(answer)}", sent
     asked = command(words[1:])
     if asked is None:
         return None
@@ -119,9 +119,9 @@ def play_line(desk, line):
 def play(text, lines, base=1, priority=100, cid=CID):
     show = shows.read(text)
     if isinstance(show, str):
-        return refused(3, show)
+        return refusal(3, show)
     if base + max(show.universes(), default=0) > 63999:
-        return refused(2, "base: Universe")
+        return refusal(2, "base: Universe")
     console = scripts.Console(base, priority, uuid(cid.encode()))
     desk = Desk(show, base)
     printed, packets = [], []
@@ -129,7 +129,7 @@ def play(text, lines, base=1, priority=100, cid=CID):
         fits = len(line) <= LONGEST_LINE and n <= MOST_LINES
         answer = play_line(desk, line) if fits else None
         if answer is None:
-            return refused(4, f"line {n} refused", printed, packets)
+            return refusal(4, f"line {n} refused", printed, packets)
         printed += [answer[0]] if answer[0] else []
         packets += [wire(universe, sent, console) for universe, sent in answer[1]]
     return Answer(0, printed_text(printed), packets=tuple(packets))
@@ -138,13 +138,13 @@ def play(text, lines, base=1, priority=100, cid=CID):
 def rehearse(text, script):
     show = shows.read(text)
     if isinstance(show, str):
-        return refused(3, show)
+        return refusal(3, show)
     if len(script) > scripts.LONGEST:
-        return refused(4, "script: TooLong")
+        return refusal(4, "script: TooLong")
     said = scripts.read(script)
     fault = said if isinstance(said, str) else scripts.setup_fault(show, said[0], said[1])
     if fault:
-        return refused(4, fault)
+        return refusal(4, fault)
     consoles, receivers, events = said
     night = scripts.Night(show, consoles, receivers, wire)
     printed = [f"{event.line} {night.reply(event)}" for event in events]

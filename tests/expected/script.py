@@ -4,7 +4,7 @@ from typing import NamedTuple
 
 from .desk import Desk, LATEST, command
 from .receiver import Receiver
-from .words import hexed, lines_of, moment, number, uuid, words_of
+from .words import hex_bytes, lines_of, moment, number, uuid, words_of
 
 LONGEST = 16_777_216
 WIDE = 65535
@@ -48,7 +48,7 @@ def event(line, words):
     elif name == "deliver" and len(given) == 4:
         values = (*(number(word, most=WIDE) for word in given[:3]), moment(given[3]))
     elif name == "stray" and len(given) <= 2:
-        values = (number(given[0], most=WIDE), hexed(given[1]) if given[1:] else b"")
+        values = (number(given[0], most=WIDE), hex_bytes(given[1]) if given[1:] else b"")
     else:
         return None
     return None if None in values else Event(line, at, name, values)
@@ -103,7 +103,7 @@ class Night:
             refusal = self.desks[said.values[0]].order(said.moment, said.values[1])
             return "refused " + refusal if refusal else "ok"
         if said.name == "tick":
-            return ticked(self.desks[said.values[0]].tick(said.moment))
+            return tick_text(self.desks[said.values[0]].tick(said.moment))
         receiver = self.receivers[said.values[0]]
         if said.name == "slots":
             return receiver.slots_line(said.moment)
@@ -132,7 +132,7 @@ class Night:
         return None
 
 
-def ticked(answer):
+def tick_text(answer):
     """What is printed of a tick's answer."""
     if isinstance(answer, str):
         return "refused " + answer

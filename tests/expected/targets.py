@@ -13,7 +13,7 @@ class Address(NamedTuple):
     host: tuple
     port: int
 
-    def spelled(self):
+    def text(self):
         return ".".join(map(str, self.host)) + f":{self.port}"
 
 
@@ -63,5 +63,5 @@ def misfit(universes, targets):
             return f"universe {universe} has no target: --to names none for it, and none for all"
         for at, address in enumerate(found):
             if address in found[at + 1 :]:
-                return f"universe {universe} has the target {address.spelled()} twice"
+                return f"universe {universe} has the target {address.text()} twice"
     return None

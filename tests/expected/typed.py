@@ -41,12 +41,12 @@ def without_keys(line):
     return KEY.sub(b"", line)
 
 
-def shown(line):
+def shown_line(line):
     """A refused line as it is told."""
     return re.sub(rb"[^ -~]", b"?", line[:SHOWN]).decode()
 
 
-def asked(line, at, is_ending=False):
+def request_in(line, at, is_ending=False):
     """What a line asks for at a moment; the text of its refusal; or None where it has no words."""
     if not words_of(line):
         return None

@@ -3,7 +3,7 @@
 import re
 from typing import NamedTuple
 
-from .receiver import LOST, SOURCES, TERMINATED, Data, Receiver, parsed
+from .receiver import LOST, SOURCES, TERMINATED, Data, Receiver, parse
 from .words import words_of
 
 MOST_BYTES, MOST_LINES = 3072, 4_000_000_000
@@ -40,7 +40,7 @@ class Source(NamedTuple):
         return f"{name} {parted}"
 
 
-def extended(datagram):
+def extended_kind(datagram):
     """What an extended packet is, or None."""
     if (
         len(datagram) < 44
@@ -66,7 +66,7 @@ class Counts:
         return told
 
 
-def leading(sources):
+def leaders(sources):
     top = max((source.priority for source in sources), default=None)
     return [source.cid for source in sources if source.priority == top]
 
@@ -83,7 +83,7 @@ def changes(word, before, after):
         between = (source.number - old.number) % 256 - 1 if old else 0
         if between > 0:
             lines.append(f"lost {source.words()} {between}")
-        if source.cid in leading(after) and source.cid not in leading(before):
+        if source.cid in leaders(after) and source.cid not in leaders(before):
             lines.append(f"leads {source.words()}")
     return lines
 
@@ -134,13 +134,13 @@ class Watch:
         self.strays = Counts()
         self.universes = [Universe(number) for number in numbers]
 
-    def passed(self, moment, datagram, tells, looks):
-        data = parsed(datagram) if datagram else None
+    def lines_at(self, moment, datagram, tells, looks):
+        data = parse(datagram) if datagram else None
         lines = [f"{moment} 0 {line}" for line in (self.strays.lines() if tells else [])]
         to = data.universe if isinstance(data, Data) else 0
         if datagram and to not in [universe.number for universe in self.universes]:
             self.strays.add(
-                extended(datagram) or ("OtherUniverse" if to else f"Unreadable {data}")
+                extended_kind(datagram) or ("OtherUniverse" if to else f"Unreadable {data}")
             )
         for universe in self.universes:
             told = universe.counts.lines() if tells else []
@@ -158,10 +158,10 @@ class Watch:
             return []
         before, self.moment = self.moment, moment
         tells, looks = (before // part != moment // part for part in (SECOND, TENTH))
-        return self.passed(moment, datagram, tells, looks)
+        return self.lines_at(moment, datagram, tells, looks)
 
     def close(self):
-        return self.passed(self.moment, b"", True, True)
+        return self.lines_at(self.moment, b"", True, True)
 
 
 def read(line, number):

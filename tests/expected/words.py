@@ -86,7 +86,7 @@ def moment(word):
     return int(word) if re.fullmatch(rb"[0-9]{1,15}", word) else None
 
 
-def hexed(word):
+def hex_bytes(word):
     """The bytes that an even number of hex digits spells, or None."""
     if len(word) % 2 or not re.fullmatch(rb"[0-9A-Fa-f]*", word):
         return None

@@ -37,7 +37,7 @@ class Axis:
     def shows(self, moment: int) -> bool:
         return self.first <= moment <= self.last
 
-    def drawn(self, drawing: Drawing, top: float, bottom: float) -> None:
+    def draw(self, drawing: Drawing, top: float, bottom: float) -> None:
         """Rules at round moments, named below `bottom`."""
         whole = self.last - self.first
         step = next((step for step in _STEPS if whole <= step * MOST_STEPS), _STEPS[-1])

@@ -11,7 +11,7 @@ import time
 from collections.abc import Callable
 from pathlib import Path
 
-from cueplayer_tools.conform.capture import heard, listening
+from cueplayer_tools.conform.capture import hear, open_listener
 from cueplayer_tools.conform.network import enter_own_network
 from cueplayer_tools.conform.open_lighting import OpenLightingPeer
 from cueplayer_tools.conform.page import page
@@ -37,7 +37,7 @@ from cueplayer_tools.conform.sources import (
     player,
 )
 from cueplayer_tools.conform.streams import listening_of
-from cueplayer_tools.conform.trial import REST, Setting, tried
+from cueplayer_tools.conform.trial import REST, Setting, try_all
 from cueplayer_tools.program import run
 from cueplayer_tools.words import Refused, printable
 
@@ -124,7 +124,7 @@ def receiver_result(words: argparse.Namespace) -> Result:
     keeps_time = words.peer != "cueplayer"
     clock = Clock() if keeps_time else SteppedClock()
     setting = Setting(start, clock, int(words.settle), f"{time.time_ns()}/{os.getpid()}")
-    found = rules_found(tried(setting, keeps_time, rules))
+    found = rules_found(try_all(setting, keeps_time, rules))
     peer = known[0]
     return Result("receiver", peer.name, peer.version, _today(), _ourselves(), found)
 
@@ -146,11 +146,11 @@ def source_result(words: argparse.Namespace) -> Result:
     if source is not None:
         name, version = source.name, source.version
         with contextlib.closing(source):
-            came = heard(source.listener, seconds, player(source, seconds))
+            came = hear(source.listener, seconds, player(source, seconds))
     else:
         host, port = words.at or ("0.0.0.0", PORT)
-        with listening(host, port, words.universes, words.card) as listener:
-            came = heard(listener, seconds)
+        with open_listener(host, port, words.universes, words.card) as listener:
+            came = hear(listener, seconds)
     if words.of:
         came = [each for each in came if each.sender[0] == words.of[0]]
     packets = listening_of(came, begun, time.time())

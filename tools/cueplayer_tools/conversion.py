@@ -5,12 +5,12 @@ The text that is written is a show file in one form, whatever the form of the ex
 from collections.abc import Iterable
 from dataclasses import dataclass
 
-from cueplayer_tools.conversion_report import CHANGED, LEFT_OUT, LOST, Report, said
+from cueplayer_tools.conversion_report import CHANGED, LEFT_OUT, LOST, Report, line_text
 from cueplayer_tools.curves import ranges
 from cueplayer_tools.export_forms import LEVEL_WORDS
 from cueplayer_tools.export_reader import Cue, Export, Part, Rate, Reader, Record, page_of
 from cueplayer_tools.export_styles import Style, style_of
-from cueplayer_tools.export_text import Line, decoded, lines_behind, lines_of
+from cueplayer_tools.export_text import Line, decode, lines_behind, lines_of
 from cueplayer_tools.words import Refused, cue_word, time_word
 
 MOST_CHANNELS = 4096
@@ -138,7 +138,7 @@ def _rate_word(rate: Rate) -> str:
 Times = tuple[Rate | None, Rate | None]
 
 
-def _meant(up: Rate | None, down: Rate | None) -> tuple[Rate, Rate]:
+def _rates(up: Rate | None, down: Rate | None) -> tuple[Rate, Rate]:
     """How channels rise and fall by these lines."""
     return up or down or Rate(0), down or up or Rate(0)
 
@@ -157,13 +157,13 @@ def times_of(cue: Cue, report: Report) -> Times:
         return last
     lit = [part for part in parts if part.channels] or parts
     own = [_own(part, parts[0]) for part in lit]
-    if all(_meant(*each) == _meant(*own[0]) for each in own):
-        if _meant(*own[0]) != _meant(*last):
+    if all(_rates(*each) == _rates(*own[0]) for each in own):
+        if _rates(*own[0]) != _rates(*last):
             told = f"cue {cue_word(cue.key)}: the times of parts without channels are left out"
             report.add(CHANGED, cue.number, told)
         return own[0]
     for part, each in zip(lit, own):
-        if _meant(*each) != _meant(*last):
+        if _rates(*each) != _rates(*last):
             _lose_part(cue, part, each, last, report)
     return last
 
@@ -185,7 +185,7 @@ class Writer:
         self.width = width
         self.lines: list[str] = []
 
-    def wrapped(self, front: str, items: Iterable[str]) -> None:
+    def wrap(self, front: str, items: Iterable[str]) -> None:
         """Lines that begin with the same words, none longer than the width, which may be none."""
         line = front
         for item in items:
@@ -198,7 +198,7 @@ class Writer:
     def levels(self, levels: dict[int, int]) -> None:
         items = [f"{channel}@{LEVEL_WORDS[byte]}" for channel, byte in sorted(levels.items())]
         if items:
-            self.wrapped("CHAN", items)
+            self.wrap("CHAN", items)
 
     def head(self, word: str, number: str, record: Record) -> None:
         """The line that opens a record, and its label: as a comment where TEXT would cut it."""
@@ -213,7 +213,7 @@ class Writer:
             f"{each.channel}<{dimmer}@{LEVEL_WORDS[each.level]}"
             for dimmer, each in sorted(export.patch.items())
         )
-        self.wrapped("PATCH 1", items)
+        self.wrap("PATCH 1", items)
 
     def cue(self, cue: Cue, times: Times, link: int | None) -> None:
         self.head("CUE", cue_word(cue.key), cue)
@@ -264,7 +264,7 @@ class Parts:
     groups: list[tuple[int, Record]]
 
 
-def _written(head: list[str], export: Export, parts: Parts, width: int) -> bytes:
+def _file_bytes(head: list[str], export: Export, parts: Parts, width: int) -> bytes:
     writer = Writer(width)
     writer.lines = ["IDENT 3:0", *head]
     if export.patch:
@@ -300,7 +300,7 @@ def _show_of(head: list[str], export: Export, parts: Parts) -> bytes:
     if len(parts.cues) > MOST_CUES:
         raise Refused(f"{len(parts.cues):,} cues, and a show has at most {MOST_CUES:,}")
     for width in (WIDTH, 0):
-        show = _written(head, export, parts, width)
+        show = _file_bytes(head, export, parts, width)
         if len(show) <= LONGEST_SHOW:
             return show
     raise Refused(f"the show has {len(show):,} bytes, and may have {LONGEST_SHOW:,}")
@@ -318,7 +318,7 @@ def _lines(text: str, report: Report) -> list[Line]:
 def convert(content: bytes, cue_list: int | None = None, is_tracking: bool = False) -> Conversion:
     """The show of an export; Refused where there is none that the program would take."""
     report = Report()
-    text, changes = decoded(content)
+    text, changes = decode(content)
     for change in changes:
         report.add(CHANGED, (), change)
     lines = _lines(text, report)
@@ -327,7 +327,7 @@ def convert(content: bytes, cue_list: int | None = None, is_tracking: bool = Fal
     parts = _parts(export, report, is_tracking)
     head = [f"! From an export of {style.name}, by convert."]
     origin = (line.words for line in lines if line.first in ("MANUFACTURER", "CONSOLE"))
-    head += [said(" ".join(words)) for words in origin]
+    head += [line_text(" ".join(words)) for words in origin]
     show = _show_of(head, export, parts)
     counts = {
         "cue": len(parts.cues),

@@ -14,7 +14,7 @@ LONGEST_SAID = 120
 MOST_TOLD = 1_000
 
 
-def said(text: str) -> str:
+def line_text(text: str) -> str:
     """What a line says, as one that can be printed."""
     return printable(" ".join(text.split()), LONGEST_SAID)
 

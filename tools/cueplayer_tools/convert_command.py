@@ -12,7 +12,7 @@ from cueplayer_tools.export_forms import whole
 from cueplayer_tools.files import read_whole, write_out
 from cueplayer_tools.looks import looks_of
 from cueplayer_tools.program import run
-from cueplayer_tools.words import Refused, counted, cue_word, printable
+from cueplayer_tools.words import Refused, count_of, cue_word, printable
 
 # A file that is longer than this is no export of a show.
 LONGEST_EXPORT = 67_108_864
@@ -78,7 +78,7 @@ def _other_looks(before: str, old: Show, after: str, new: Show, both: list[int])
         for numbers, what in ((lit, "other slots"), (times, "other times"))
         if numbers
     ]
-    cues = counted(len(both), "cue")
+    cues = count_of(len(both), "cue")
     return told or [f"compared: {cues}, with the slots and times of the file as it stands"]
 
 
@@ -100,7 +100,7 @@ def _head(name: str, conversion: Conversion) -> list[str]:
     """What was read, as whose export, and what there is now."""
     by = conversion.told_by
     told = f" (line {by.number}: {printable(by.said.strip())})" if by else ""
-    counts = ", ".join(counted(count, what) for what, count in conversion.counts.items())
+    counts = ", ".join(count_of(count, what) for what, count in conversion.counts.items())
     return [
         f"read: {printable(name)}: {conversion.lines} lines of {conversion.style.name}{told}",
         f"in doubt: {UNTRIED}",

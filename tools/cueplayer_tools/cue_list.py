@@ -60,12 +60,12 @@ class Show:
         """The cue numbers, ascending."""
         return sorted(self.cues)
 
-    def following(self, cue: int | None) -> int | None:
+    def next_cue(self, cue: int | None) -> int | None:
         """The cue that `go` comes to from this one, or from none."""
         at = bisect_right(self.order, cue or 0)
         return self.order[at] if at < len(self.order) else None
 
-    def preceding(self, cue: int | None) -> int | None:
+    def previous_cue(self, cue: int | None) -> int | None:
         """The cue that `back` comes to."""
         at = bisect_left(self.order, cue or 0)
         return self.order[at - 1] if at > 0 else None

@@ -65,7 +65,7 @@ def lit(curves: dict[Slot, Curve], channels: dict[Slot, int]) -> list[Named]:
     return named
 
 
-def chosen(
+def choose_curves(
     night: Night, show: Show, base: int, slots: list[Slot], channels: list[int]
 ) -> list[Named]:
     """The curves that were asked for: of each slot, and of the slots of each channel."""

@@ -42,7 +42,7 @@ class Stopped(Exception):
         self.status = status
 
 
-def _listening(address: Address) -> socket.socket:
+def _listener(address: Address) -> socket.socket:
     listener = socket.socket(socket.AF_INET, socket.SOCK_STREAM)
     try:
         listener.setsockopt(socket.SOL_SOCKET, socket.SO_REUSEADDR, 1)
@@ -59,7 +59,7 @@ class Door(ABC):
 
     def __init__(self, address: Address, names: list[str], tls: ssl.SSLContext | None) -> None:
         """Listens at an address, which has these names too."""
-        self.listener = _listening(address)
+        self.listener = _listener(address)
         self.tls = tls
         self.host, self.port = self.listener.getsockname()
         self.scheme = "http" if tls is None else "https"
@@ -138,7 +138,7 @@ class PinDoor(Door):
         found = re.search(pattern, request.headers.get("Cookie", ""), re.ASCII)
         return None if found is None else self.pins.session(found[1], address)
 
-    def kept(self, token: str) -> str:
+    def cookie_header(self, token: str) -> str:
         """The header by which a browser keeps a session."""
         secure = "" if self.tls is None else "; Secure"
         return f"{self.cookie}={token}; Path=/; HttpOnly; SameSite=Strict{secure}"

@@ -153,8 +153,8 @@ class HeardNight(ABC):
         if self.is_astray or asked is None or asked == WHERE:
             self._take_strange_answer(answer)
             return
-        given = self.input.given()
-        self.input.answered()
+        given = self.input.oldest_moment()
+        self.input.take_answered()
         if answer.refusal is None:
             self.state.accept(answer.moment, asked, given)
         else:
@@ -178,7 +178,7 @@ class HeardNight(ABC):
         if self.is_astray:
             self.input.forget_asked()
         elif self.input.oldest() == WHERE:
-            self.input.answered()
+            self.input.take_answered()
         else:
             # Somebody else asked.
             return

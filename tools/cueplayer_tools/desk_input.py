@@ -32,11 +32,11 @@ class Waiting:
         """The line that the next answer is to: the oldest that waits."""
         return self.waiting[0][1] if self.waiting else None
 
-    def given(self) -> float:
+    def oldest_moment(self) -> float:
         """When the oldest line that waits was handed on, by `time.monotonic()`."""
         return self.waiting[0][0]
 
-    def answered(self) -> str | None:
+    def take_answered(self) -> str | None:
         """The line that an answer is to. It waits no more."""
         return self.waiting.popleft()[1] if self.waiting else None
 

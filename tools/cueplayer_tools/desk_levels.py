@@ -31,7 +31,7 @@ MOST_IN_A_TICK = 500
 ENDED = "the levels cannot be read: watch has ended"
 
 
-def _joined(universe: int, port: int, card: str | None) -> socket.socket:
+def _join(universe: int, port: int, card: str | None) -> socket.socket:
     group = group_of(universe)
     receiver = socket.socket(socket.AF_INET, socket.SOCK_DGRAM)
     try:
@@ -88,7 +88,7 @@ class LevelReader:
             return ""
         try:
             if target.is_groups():
-                receiver = _joined(universe, target.address[1], way.card)
+                receiver = _join(universe, target.address[1], way.card)
             else:
                 receiver = bound_socket(target.address)
                 self.here.add(target.address)

@@ -40,7 +40,7 @@ class Session:
     is_over: bool = False
 
 
-def _kept(token: str) -> bytes:
+def _digest(token: str) -> bytes:
     """What is kept of a session's token: how long a search takes says nothing about it."""
     return hashlib.sha256(token.encode("latin-1")).digest()
 
@@ -124,13 +124,13 @@ class Pins:
         self.attempts.forgive(address)
         self._make_room(role)
         token = secrets.token_urlsafe(24)
-        self.sessions[_kept(token)] = Session(role, address)
+        self.sessions[_digest(token)] = Session(role, address)
         return token
 
     def session(self, token: str, address: str) -> Session | None:
         """The session of this token, at the address that began it; None where there is none."""
         with self.lock:
-            session = self.sessions.get(_kept(token))
+            session = self.sessions.get(_digest(token))
         return session if session is not None and session.address == address else None
 
     def _make_room(self, role: Role) -> None:

@@ -145,7 +145,7 @@ class DeskServer:
         except Refused as fault:
             refuse(connection, HTTPStatus.FORBIDDEN, str(fault))
         else:
-            kept = {"Set_Cookie": door.kept(token)}
+            kept = {"Set_Cookie": door.cookie_header(token)}
             answer(connection, HTTPStatus.NO_CONTENT, b"", PLAIN, **kept)
 
     def _take_post(self, connection: socket.socket, request: Request, visit: Visit) -> None:
@@ -184,7 +184,7 @@ class DeskServer:
 
     def _take_command(self, connection: socket.socket, request: Request, visit: Visit) -> None:
         """A command, in plain text: 204 says that it was handed on, the events what came of it."""
-        age, seen = self._age(request), self._seen(request)
+        age, seen = self._age(request), self._state_number(request)
         if age is None or seen is None:
             told = "a command says when it was pressed, and which state its page showed"
             refuse(connection, HTTPStatus.BAD_REQUEST, told)
@@ -209,7 +209,7 @@ class DeskServer:
         age = self.now() - int(pressed)
         return age if age >= -AHEAD else None
 
-    def _seen(self, request: Request) -> int | None:
+    def _state_number(self, request: Request) -> int | None:
         """The number of the state that the page showed; None where it does not say, or there was
         no such state yet."""
         seen = request.headers.get("Desk-State", "")

@@ -118,7 +118,7 @@ class State:
     def move(self, move: Move) -> None:
         """Takes a move, in its own times or its cue's."""
         self.is_placed = True
-        self.current, self.following = move.cue, self.show.following(move.cue)
+        self.current, self.following = move.cue, self.show.next_cue(move.cue)
         self._follow_from(move.moment)
         if self.timed is not None and self.timed[0] == move:
             whole = self.timed[1]

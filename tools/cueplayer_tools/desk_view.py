@@ -32,7 +32,7 @@ def show_view(show: Show, title: str, base: int, osc: str | None) -> dict[str, A
     return {"title": shown, "cues": cues, "faders": faders, "universes": universes, "osc": osc}
 
 
-def _spelled(cue: int | None) -> str | None:
+def _spelling(cue: int | None) -> str | None:
     return None if cue is None else cue_word(cue)
 
 
@@ -49,8 +49,8 @@ def state_view(night: HeardNight) -> dict[str, Any]:
     state, now = night.state, night.clock.now()
     return {
         "number": night.version,
-        "current": _spelled(state.current),
-        "next": _spelled(state.following),
+        "current": _spelling(state.current),
+        "next": _spelling(state.following),
         "placed": state.is_placed,
         "fade": _since(state.fade, now),
         "follow": _since(state.follow, now),

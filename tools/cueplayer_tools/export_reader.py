@@ -8,10 +8,10 @@ from collections.abc import Callable, Iterator
 from dataclasses import dataclass, field
 
 from cueplayer_tools import export_forms as forms
-from cueplayer_tools.conversion_report import CHANGED, DOUBT, LEFT_OUT, LOST, Report, said
+from cueplayer_tools.conversion_report import CHANGED, DOUBT, LEFT_OUT, LOST, Report, line_text
 from cueplayer_tools.export_text import EDGES, Line
 from cueplayer_tools.export_values import Values, has_page
-from cueplayer_tools.words import counted, cue_word, printable, time_word
+from cueplayer_tools.words import count_of, cue_word, printable, time_word
 
 PRIMARY = frozenset("CLEAR CONSOLE CUE ENDDATA GROUP IDENT MANUFACTURER PATCH SET SUB".split())
 SECONDARY = frozenset("CHAN DOWN FOLLOWON LINK PART TEXT UP".split())
@@ -181,7 +181,7 @@ class Reader:
         if meant is None:
             self.report.add(LEFT_OUT, line.numbers, f"unknown keyword {printable(line.words[0])}")
             return
-        text = f"{said(line.said)}: left out ({meant}?)"
+        text = f"{line_text(line.said)}: left out ({meant}?)"
         if meant in KINDS:
             at = "no record"
             if isinstance(self.owner, Record):
@@ -192,17 +192,17 @@ class Reader:
 
     def _ident(self, line: Line) -> None:
         if line.words[1:2] != ["3:0"]:
-            text = f"{said(line.said)} to IDENT 3:0: read as of that version"
+            text = f"{line_text(line.said)} to IDENT 3:0: read as of that version"
             self.report.add(DOUBT, line.numbers, text)
 
     def _clear(self, line: Line) -> None:
         tables = _TABLES.get(line.words[1].upper()) if len(line.words) == 2 else None
         if tables is None:
-            self.report.add(LEFT_OUT, line.numbers, f"{said(line.said)}: clears no table")
+            self.report.add(LEFT_OUT, line.numbers, f"{line_text(line.said)}: clears no table")
         for table in tables or ():
             records = getattr(self.export, table)
             if records:
-                text = f"{counted(len(records), _NAMES[table])} above {said(line.said)}"
+                text = f"{count_of(len(records), _NAMES[table])} above {line_text(line.said)}"
                 self.report.add(LEFT_OUT, line.numbers, text)
             records.clear()
 
@@ -211,7 +211,7 @@ class Reader:
         read = forms.cue_number if kind == "cue" else forms.thousandths
         key = read(line.words[1]) if len(line.words) > 1 else None
         if key is None:
-            self._skip(line, LOST, f"{said(line.said)}: not a {kind} number")
+            self._skip(line, LOST, f"{line_text(line.said)}: not a {kind} number")
             return
         page = page_of(line)
         if page != self.pages[line.first]:
@@ -235,9 +235,9 @@ class Reader:
         name = label_in(line.said.partition('"')[2])
         if rest and rest[0].startswith('"') and name:
             owner.text = name
-            self.report.add(CHANGED, line.numbers, f"{said(line.said)}: the name is the label")
+            self.report.add(CHANGED, line.numbers, f"{line_text(line.said)}: the name is the label")
         elif rest:
-            text = f"words after {line.first} {line.words[1]}: {said(' '.join(rest))}"
+            text = f"words after {line.first} {line.words[1]}: {line_text(' '.join(rest))}"
             self.report.add(LOST, line.numbers, text)
 
     def _skip(self, line: Line, kind: str, text: str) -> None:
@@ -250,7 +250,8 @@ class Reader:
             self.report.add(CHANGED, line.numbers, "PATCH without a page: page 1")
             page = 1
         if page != self.pages["PATCH"]:
-            named = f"patch of page {page}" if page is not None else f"{said(line.said)}: no page"
+            no_page = f"{line_text(line.said)}: no page"
+            named = f"patch of page {page}" if page is not None else no_page
             self._skip(line, LOST, named)
             return
         self.export.has_patch = True
@@ -297,12 +298,12 @@ class Reader:
         """A time of a cue, or None where the word is none, which is told."""
         found = forms.time(word)
         if found is None:
-            text = f"{said(line.said)}: {printable(word)} is not a time"
+            text = f"{line_text(line.said)}: {printable(word)} is not a time"
             self.report.add(LOST, line.numbers, text)
             return None
         anew = time_word(found.value)
         if found.is_cut:
-            text = f"{said(line.said)}: {printable(word)} to the longest time, {anew}"
+            text = f"{line_text(line.said)}: {printable(word)} to the longest time, {anew}"
             self.report.add(LOST, line.numbers, text)
         elif found.is_rounded:
             self.report.add(CHANGED, line.numbers, f"time {printable(word)} to {anew}")
@@ -314,7 +315,7 @@ class Reader:
         """The times of a line of a cue: up to the first word that is none. Of a comma between
         digits this is said."""
         if _has_comma(line.said):
-            self.report.add(DOUBT, line.numbers, f"{said(line.said)}{comma}")
+            self.report.add(DOUBT, line.numbers, f"{line_text(line.said)}{comma}")
         words = line.words[1 : most + 1]
         if not words:
             self.report.add(LOST, line.numbers, f"{line.first} without a time")
@@ -326,7 +327,7 @@ class Reader:
             found.append(value)
         if len(line.words) > most + 1:
             rest = " ".join(line.words[most + 1 :])
-            self.report.add(LOST, line.numbers, f"words after {line.first}: {said(rest)}")
+            self.report.add(LOST, line.numbers, f"words after {line.first}: {line_text(rest)}")
         return found
 
     def _rate(self, line: Line, owner: Record) -> None:
@@ -352,7 +353,7 @@ class Reader:
             return
         to = forms.cue_number(line.words[1]) if len(line.words) > 1 else None
         if to is None:
-            self.report.add(LOST, line.numbers, f"{said(line.said)}: no cue number")
+            self.report.add(LOST, line.numbers, f"{line_text(line.said)}: no cue number")
         else:
             owner.link = to, line.number
 
@@ -365,7 +366,7 @@ class Reader:
     def _text(self, line: Line, owner: Record) -> None:
         label = label_in(line.said.strip(EDGES)[len(line.words[0]) :])
         if isinstance(owner, Cue) and owner.parts[-1].name:
-            text = f"the label of part {owner.parts[-1].name} of a cue: {said(label)}"
+            text = f"the label of part {owner.parts[-1].name} of a cue: {line_text(label)}"
             self.report.add(LEFT_OUT, line.numbers, text)
         elif label:
             owner.text = label

@@ -38,7 +38,7 @@ class Line:
         return range(self.number, (self.more[-1][0] if self.more else self.number) + 1)
 
 
-def decoded(content: bytes) -> tuple[str, list[str]]:
+def decode(content: bytes) -> tuple[str, list[str]]:
     """The text of a file, and what had to be done to read it."""
     changes = []
     if content[:3] == b"\xef\xbb\xbf":

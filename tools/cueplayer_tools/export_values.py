@@ -8,7 +8,7 @@ from collections.abc import Callable, Iterator
 from typing import Any
 
 from cueplayer_tools import export_forms as forms
-from cueplayer_tools.conversion_report import CHANGED, DOUBT, LOST, Report, said
+from cueplayer_tools.conversion_report import CHANGED, DOUBT, LOST, Report, line_text
 from cueplayer_tools.export_text import SEPARATORS, Line
 
 HIGHEST_DIMMER = 8192
@@ -72,7 +72,7 @@ class Values:
         return channel, dimmer, byte
 
     def _lose(self, line: Line, number: int, what: str) -> None:
-        self.report.add(LOST, number, f"{line.first} {said(what)} cannot be read")
+        self.report.add(LOST, number, f"{line.first} {line_text(what)} cannot be read")
         scale = _other_scale(what)
         if scale:
             text = f"a level of another scale: if all are {scale}, they were misread as percent"
@@ -110,7 +110,8 @@ class Values:
         texts = [line.said, *(text for _, text in line.more)]
         marks = sum(text.count(mark) for text in texts for mark in "@<>/=")
         if is_odd or marks not in (0, expected):
-            told = f"{said(line.said)}: read word by word, though its marks group it differently"
+            by_words = "read word by word, though its marks group it differently"
+            told = f"{line_text(line.said)}: {by_words}"
             self.report.add(DOUBT, line.numbers, told)
 
     def _by_marks(self, line: Line, read: Read, size: int, chunks: list[Chunk]) -> list[Any]:
@@ -120,7 +121,7 @@ class Values:
         found = []
         for (number, chunk), each in zip(chunks, words):
             if size == 3 and len(each) == 2 and "<" in chunk and "@" not in chunk:
-                self.report.add(CHANGED, number, f"{said(chunk)} has no level: full")
+                self.report.add(CHANGED, number, f"{line_text(chunk)} has no level: full")
                 each.append("FL")
             value = read(each) if len(each) == size else None
             if value is None:

@@ -23,7 +23,7 @@ def _script(cues: list[int], universes: list[int]) -> str:
     return "\n".join(lines) + "\n"
 
 
-def _shown(file: str, cues: list[int], universes: list[int], looks: dict[int, Look]) -> None:
+def _show(file: str, cues: list[int], universes: list[int], looks: dict[int, Look]) -> None:
     printed = replies_of(file, _script(cues, universes))
     replies = (line.partition(" ")[2] for line in printed.splitlines())
     shown = (reply for reply in replies if reply.startswith("slots"))
@@ -32,7 +32,7 @@ def _shown(file: str, cues: list[int], universes: list[int], looks: dict[int, Lo
             looks[cue][universe] = next(shown)
 
 
-def _asked(file: str, cue: int) -> Look:
+def _still_look(file: str, cue: int) -> Look:
     """The slots of one cue, which cannot be held still in a rehearsal."""
     ended = run("slots", "--", file, cue_word(cue))
     if ended.status:
@@ -50,10 +50,10 @@ def looks_of(file: str, show: Show) -> dict[int, Look]:
     still = [cue for cue in show.order if show.cues[cue].follow != 0]
     for first in range(0, len(universes), MOST_RECEIVERS):
         if still:
-            _shown(file, still, universes[first : first + MOST_RECEIVERS], looks)
+            _show(file, still, universes[first : first + MOST_RECEIVERS], looks)
     for cue in show.order:
         if show.cues[cue].follow == 0:
-            looks[cue] = _asked(file, cue)
+            looks[cue] = _still_look(file, cue)
     return looks
 
 

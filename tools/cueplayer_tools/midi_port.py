@@ -21,7 +21,7 @@ AGAIN_EVERY = 1.0
 MOST_AT_ONCE = 4_096
 
 
-def opened(path: str) -> int:
+def open_port(path: str) -> int:
     """A descriptor of the device. A FIFO is opened for writing too, so that it has no end."""
     try:
         kind = os.stat(path).st_mode
@@ -41,7 +41,7 @@ class MidiPort:
         self.path = path
         self.wanted = wanted
         self.tell = tell
-        self.device: int | None = opened(path)
+        self.device: int | None = open_port(path)
         self.reader = MidiReader()
         self.looked_at = time.monotonic()
         # When a refusal was told last, and how many were not told since.
@@ -109,7 +109,7 @@ class MidiPort:
 
     def _open_again(self) -> None:
         try:
-            self.device = opened(self.path)
+            self.device = open_port(self.path)
         except Refused:
             return
         self.looked_at = time.monotonic()

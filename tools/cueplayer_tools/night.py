@@ -50,7 +50,7 @@ class Night:
         return self.curves.get(slot, [0] * len(self.moments))
 
 
-def filled(given: list[Given], every: int) -> list[Given]:
+def fill_ticks(given: list[Given], every: int) -> list[Given]:
     """The lines, with ticks of our own wherever the next recorded one is farther than `every`."""
     ticks = [line.moment for line in given if line.is_tick]
     last = max(line.moment for line in given)
@@ -63,7 +63,7 @@ def filled(given: list[Given], every: int) -> list[Given]:
     return sorted(both, key=lambda line: line.moment)
 
 
-def thinned(given: list[Given], first: int, last: int) -> list[Given]:
+def thin_ticks(given: list[Given], first: int, last: int) -> list[Given]:
     """The commands up to `last`, and of the ticks between the two no more than can be seen: those
     at even distances, and the last before and the first after each move from cue to cue."""
     ticks = [at for at, line in enumerate(given) if line.is_tick and first <= line.moment <= last]
@@ -92,7 +92,7 @@ def _lines(given: list[Given]) -> list[str]:
     ]
 
 
-def _asked(events: list[Event]) -> list[Asked]:
+def _requests(events: list[Event]) -> list[Asked]:
     commands = (event for event in events if event.words[0] == "do")
     return [
         Asked(each.moment, each.words[2:], None if each.reply == ("ok",) else each.reply[-1])
@@ -108,7 +108,7 @@ def night_of(file: str, given: list[Given], universes: list[int], base: int) -> 
     accepted = [event for event in ticks if event.reply[0] != "refused"]
     if not accepted:
         raise Refused("no tick is in this part of the night: nothing was shown")
-    night = Night([event.moment for event in accepted], asked=_asked(plain.events))
+    night = Night([event.moment for event in accepted], asked=_requests(plain.events))
     for start in range(0, len(universes), MOST_RECEIVERS):
         _listen(night, file, header, plain.events, universes[start : start + MOST_RECEIVERS])
     return night
@@ -125,7 +125,7 @@ def _listen(
         if event.words[0] != "tick" or event.reply[0] == "refused":
             continue
         for receiver, universe in enumerate(universes):
-            if universe in event.sent():
+            if universe in event.sent_universes():
                 packet = packets[universe]
                 packets[universe] += 1
                 script.append(f"{event.moment} deliver {receiver} 0 {universe} {packet}\n")
@@ -165,9 +165,9 @@ def _cue_of(show: Show, current: int | None, words: tuple[str, ...]) -> int | No
     """The cue that an accepted command came to; None where it is no move."""
     match words[0]:
         case "go":
-            return show.following(current)
+            return show.next_cue(current)
         case "back":
-            return show.preceding(current)
+            return show.previous_cue(current)
         case "goto":
             return thousandths_of(words[1])
     return None
@@ -177,7 +177,7 @@ def _follow(show: Show, moves: list[Move], moment: int) -> None:
     """Makes the moves that cues make by themselves up to a moment, each at its own."""
     while moves:
         latest = moves[-1]
-        follow, cue = show.cues[latest.cue].follow, show.following(latest.cue)
+        follow, cue = show.cues[latest.cue].follow, show.next_cue(latest.cue)
         if follow is None or cue is None or latest.moment + follow > moment:
             return
         moves.append(Move(latest.moment + follow, cue))

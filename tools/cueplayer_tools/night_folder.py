@@ -78,7 +78,7 @@ class NightFolder:
     def is_played(self) -> bool:
         """Whether a `live` reads the FIFO."""
         try:
-            os.close(self._opened())
+            os.close(self._open_file())
         except Refused:
             return False
         return True
@@ -134,7 +134,7 @@ class NightFolder:
 
     def give(self, line: str) -> None:
         """Hands a line on, or refuses it: it is never handed on later."""
-        pipe = self._opened()
+        pipe = self._open_file()
         try:
             if self._stands_still(pipe):
                 raise Refused("live does not answer: nothing was sent")
@@ -147,7 +147,7 @@ class NightFolder:
     def stands_still(self) -> bool:
         """Whether lines were unread at each look for a second."""
         try:
-            pipe = self._opened()
+            pipe = self._open_file()
         except Refused:
             return False
         try:
@@ -155,7 +155,7 @@ class NightFolder:
         finally:
             os.close(pipe)
 
-    def _opened(self) -> int:
+    def _open_file(self) -> int:
         try:
             pipe = os.open(self.fifo, os.O_WRONLY | os.O_NONBLOCK)
         except OSError as fault:

@@ -12,7 +12,7 @@ from cueplayer_tools.addresses import Address
 from cueplayer_tools.desk_heard import HeardNight
 from cueplayer_tools.desk_state import State
 from cueplayer_tools.live_lines import FULL
-from cueplayer_tools.osc_packets import Argument, packed
+from cueplayer_tools.osc_packets import Argument, pack
 from cueplayer_tools.osc_port import SUBSCRIBE
 from cueplayer_tools.words import cue_word
 
@@ -26,7 +26,7 @@ QUIET = 1.0
 Told = dict[str, tuple[Argument, ...]]
 
 
-def _named(state: State, cue: int | None) -> tuple[Argument, ...]:
+def _cue_arguments(state: State, cue: int | None) -> tuple[Argument, ...]:
     """A cue's number as a text, and its label; both empty where there is none."""
     if cue is None:
         return "", ""
@@ -36,8 +36,8 @@ def _named(state: State, cue: int | None) -> tuple[Argument, ...]:
 def told_of(state: State) -> Told:
     """All that is told of a state, by address."""
     told: Told = {
-        "/cueplayer/cue": _named(state, state.current),
-        "/cueplayer/next": _named(state, state.following),
+        "/cueplayer/cue": _cue_arguments(state, state.current),
+        "/cueplayer/next": _cue_arguments(state, state.following),
         "/cueplayer/master": (state.grand / FULL,),
         "/cueplayer/lost": (state.lost.count,),
     }
@@ -106,7 +106,7 @@ class Feedback:
             changed = {at: words for at, words in told.items() if known.has.get(at) != words}
             known.has = told
             for at, words in changed.items():
-                self._send(packed(at, *words), address)
+                self._send(pack(at, *words), address)
 
     def _send(self, datagram: bytes, address: Address) -> None:
         try:

@@ -52,7 +52,7 @@ def _only(arguments: tuple[Argument, ...]) -> Argument:
     return arguments[0]
 
 
-def _spelled(argument: Argument, what: str, places: int) -> str:
+def _spelling(argument: Argument, what: str, places: int) -> str:
     """A number as text: a string spells it; a float has it to so many decimal places."""
     if isinstance(argument, bool):
         raise Refused(f"not {what}")
@@ -67,12 +67,12 @@ def _spelled(argument: Argument, what: str, places: int) -> str:
 
 def _cue(argument: Argument) -> str:
     """A cue number: a float has it as near as a float can."""
-    return cue_word(thousandths_of(_spelled(argument, "a cue number", 3)))
+    return cue_word(thousandths_of(_spelling(argument, "a cue number", 3)))
 
 
 def _time(argument: Argument) -> str:
     """A time: a float has seconds, to the nearest hundredth."""
-    return time_word(milliseconds_of(_spelled(argument, "a time", 2)))
+    return time_word(milliseconds_of(_spelling(argument, "a time", 2)))
 
 
 def _usual_line(message: Message) -> str | None:

@@ -117,19 +117,19 @@ def messages_of(data: bytes, depth: int = 0) -> list[Message]:
     return [found for element in _elements(data) for found in messages_of(element, depth + 1)]
 
 
-def _padded(text: str) -> bytes:
+def _pad(text: str) -> bytes:
     data = text.encode().replace(b"\0", b"")
     return data + bytes(4 - len(data) % 4)
 
 
-def packed(address: str, *arguments: Argument) -> bytes:
+def pack(address: str, *arguments: Argument) -> bytes:
     """A datagram with one message: texts in UTF-8, numbers as int32 or float32."""
     tags, data = ",", b""
     for argument in arguments:
         if isinstance(argument, str):
-            tags, data = tags + "s", data + _padded(argument)
+            tags, data = tags + "s", data + _pad(argument)
         elif isinstance(argument, float):
             tags, data = tags + "f", data + struct.pack(">f", argument)
         else:
             tags, data = tags + "i", data + struct.pack(">i", min(argument, 0x7FFF_FFFF))
-    return _padded(address) + _padded(tags) + data
+    return _pad(address) + _pad(tags) + data

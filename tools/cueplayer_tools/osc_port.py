@@ -196,14 +196,14 @@ class OscPort:
         self.spent.clear()
         self.reading = dict.fromkeys(MOST_READING, 0.0)
         self.refusals.flush()
-        lost = self._lost()
+        lost = self._lost_count()
         if lost != self.lost:
             more = (lost - self.lost) % 2**32
             told = f"{more} datagrams lost, unread: too many came"
             self.tell(f"{told}; press again if nothing happened")
             self.lost = lost
 
-    def _lost(self) -> int:
+    def _lost_count(self) -> int:
         """How many datagrams found no room; as before where the system does not say."""
         try:
             counts = self.socket.getsockopt(socket.SOL_SOCKET, _SO_MEMINFO, _COUNTS.size)

@@ -7,8 +7,8 @@ from dataclasses import replace
 from pathlib import Path
 
 from cueplayer_tools.cue_list import read_show
-from cueplayer_tools.curves import all_of, chosen
-from cueplayer_tools.night import LEAST_APART, Slot, filled, night_of, thinned
+from cueplayer_tools.curves import all_of, choose_curves
+from cueplayer_tools.night import LEAST_APART, Slot, fill_ticks, night_of, thin_ticks
 from cueplayer_tools.picture_night import NightPicture, draw_night
 from cueplayer_tools.picture_rehearsal import draw_rehearsal, moments_between
 from cueplayer_tools.picture_storm import Panel, brightest, draw_storms, draw_sweep
@@ -19,7 +19,7 @@ from cueplayer_tools.storm_command import (
     consoles_of,
     losses,
     network_of,
-    planned,
+    plan_of_words,
     sweep_of,
 )
 from cueplayer_tools.storm_report import network_words
@@ -50,14 +50,14 @@ def night_picture(words: argparse.Namespace) -> str:
     if not given:
         raise Refused("the record has no lines")
     if words.every is not None:
-        given = filled(given, max(words.every, LEAST_APART))
+        given = fill_ticks(given, max(words.every, LEAST_APART))
     first = given[0].moment if words.first is None else words.first
     last = given[-1].moment if words.until is None else words.until
     asked_for = {universe for universe, _ in words.slot}
     universes = sorted(asked_for | set(show.universes(words.base)))
-    night = night_of(words.show, thinned(given, first, last), universes, words.base)
+    night = night_of(words.show, thin_ticks(given, first, last), universes, words.base)
     if words.slot or words.channel:
-        named, left_away = chosen(night, show, words.base, words.slot, words.channel), 0
+        named, left_away = choose_curves(night, show, words.base, words.slot, words.channel), 0
     else:
         named, left_away = all_of(night, show, words.base)
     lost = None if words.replies is None else lost_in(text_of(words.replies))
@@ -80,7 +80,7 @@ def rehearsal_picture(words: argparse.Namespace) -> str:
 
 def storm_picture(words: argparse.Namespace) -> str:
     """The picture of a night in a bad network, or of what each rate of loss does to it."""
-    plan = planned(words)
+    plan = plan_of_words(words)
     network = network_of(words, plan)
     title = words.title or Path(words.night).name
     if words.sweep is not None:

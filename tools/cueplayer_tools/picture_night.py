@@ -32,14 +32,14 @@ class NightPicture:
         return Axis(self.night.first, self.night.last)
 
 
-def _named(words: str, name: str) -> str:
+def _with_name(words: str, name: str) -> str:
     return f"{words} {name}".strip()
 
 
 def _labels(picture: NightPicture) -> list[Label]:
     """The cues that were gone to, the commands that were refused, and the end."""
     labels = [
-        Label(move.moment, _named(cue_word(move.cue), picture.show.cues[move.cue].name))
+        Label(move.moment, _with_name(cue_word(move.cue), picture.show.cues[move.cue].name))
         for move in moves_of(picture.show, picture.night)
     ]
     for each in picture.night.asked:
@@ -55,7 +55,7 @@ def _labels(picture: NightPicture) -> list[Label]:
 def _master_name(show: Show, words: str) -> str:
     kind, _, at = words.partition(" ")
     records = {"sub": show.subs, "group": show.groups}.get(kind, {})
-    return _named(words, records[int(at)].name if at else "")
+    return _with_name(words, records[int(at)].name if at else "")
 
 
 def _draw_master(
@@ -100,7 +100,7 @@ def draw_night(picture: NightPicture) -> str:
     lanes = len(masters) + (picture.lost is not None)
     bottom = top + PLOT
     under = bottom + 14
-    axis.drawn(drawing, top, under + LANE * lanes)
+    axis.draw(drawing, top, under + LANE * lanes)
     draw_labels(drawing, axis, labels, TOP, bottom)
     draw_levels(drawing, axis, picture.night.moments, picture.named, top, bottom)
     for place, words in enumerate(sorted(masters, key=_master_order)):
@@ -113,7 +113,7 @@ def draw_night(picture: NightPicture) -> str:
     if picture.left_away:
         height += ROW
         drawing.text(LEFT, height - 8, f"and {picture.left_away} lower curves", "faint")
-    return drawing.written(height)
+    return drawing.file_text(height)
 
 
 def _master_order(words: str) -> tuple[int, int]:

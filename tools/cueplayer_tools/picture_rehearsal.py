@@ -38,7 +38,7 @@ class _Told:
     last: int = 0
 
 
-def _told(rehearsal: Rehearsal) -> _Told:
+def _collect(rehearsal: Rehearsal) -> _Told:
     told = _Told()
     events = [event for event in rehearsal.events if not event.is_skipped]
     told.first = events[0].moment if events else 0
@@ -49,7 +49,7 @@ def _told(rehearsal: Rehearsal) -> _Told:
             told.shown.setdefault(int(event.words[1]), []).append((moment, event.slots()))
         elif kind == "tick":
             console = int(event.words[1])
-            for universe in event.sent():
+            for universe in event.sent_universes():
                 packets = told.packets.setdefault((console, universe), [])
                 packets.append(_Packet(console, universe, moment))
         elif kind == "deliver":
@@ -122,7 +122,7 @@ def _description(rehearsal: Rehearsal, told: _Told) -> str:
 
 def draw_rehearsal(title: str, rehearsal: Rehearsal) -> str:
     """The picture, as a file."""
-    told = _told(rehearsal)
+    told = _collect(rehearsal)
     axis = Axis(told.first, max(told.last, told.first + 1))
     drawing = Drawing(title, _description(rehearsal, told))
     drawing.text(LEFT, 24, title, "title")
@@ -132,7 +132,7 @@ def draw_rehearsal(title: str, rehearsal: Rehearsal) -> str:
         (f"console {console}, univ. {universe}", packets)
         for (console, universe), packets in sorted(told.packets.items())
     ]
-    axis.drawn(drawing, top, below + LANE * len(lanes))
+    axis.draw(drawing, top, below + LANE * len(lanes))
     draw_labels(drawing, axis, told.labels, TOP, below - 16)
     left_away = 0
     for receiver, universe in enumerate(rehearsal.receivers):
@@ -145,7 +145,7 @@ def draw_rehearsal(title: str, rehearsal: Rehearsal) -> str:
     if left_away:
         height += ROW
         drawing.text(LEFT, height - 8, f"and {left_away} lower curves", "faint")
-    return drawing.written(height)
+    return drawing.file_text(height)
 
 
 def moments_between(moments: list[int], count: int) -> list[int]:

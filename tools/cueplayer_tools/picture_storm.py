@@ -7,7 +7,7 @@ from cueplayer_tools.axis import LEFT, RIGHT, Axis
 from cueplayer_tools.night import Slot
 from cueplayer_tools.storm_network import Traffic
 from cueplayer_tools.storm_night import DARK, Change
-from cueplayer_tools.storm_report import lasting, network_words, percent, share
+from cueplayer_tools.storm_report import duration, network_words, percent, share
 from cueplayer_tools.storm_sweep import Rate
 from cueplayer_tools.storm_verdict import Storm, Verdict
 from cueplayer_tools.svg import Drawing, colour, number
@@ -69,7 +69,7 @@ def _draw_slots(drawing: Drawing, panel: Panel, top: float) -> None:
     """What is meant and shown of each slot, and its name."""
     storm = panel.storm
     for place, (universe, slot) in enumerate(panel.slots):
-        meant = _path(drawing, panel, top, slot, storm.meant(universe))
+        meant = _path(drawing, panel, top, slot, storm.meant_changes(universe))
         shown = _path(drawing, panel, top, slot, storm.seen.shown[universe])
         y = top + 14 * place + 4
         name = f"M{number(RIGHT + 8)} {number(y)}h14"
@@ -110,8 +110,8 @@ def _summary(storm: Storm, universes: list[int]) -> str:
     """The storm in words."""
     told = [each for each in storm.verdicts if each.universe in universes]
     wrong = ", ".join(
-        f"universe {each.universe} other than meant for {lasting(each.wrong)} of"
-        f" {lasting(each.whole)}, by {each.off} at most"
+        f"universe {each.universe} other than meant for {duration(each.wrong)} of"
+        f" {duration(each.whole)}, by {each.off} at most"
         for each in told
     )
     return f"{network_words(storm.network)}: {wrong}"
@@ -155,12 +155,12 @@ def draw_storms(title: str, panels: list[Panel]) -> str:
         axis = panel.axis
         part = Drawing("", "")
         bottom = _draw_panel(part, panel, top)
-        axis.drawn(drawing, top + 12, bottom)
+        axis.draw(drawing, top + 12, bottom)
         drawing.parts += part.parts
         bottom += APART
     told = "broken: what the show means; red: wrong; crosses: lost packets"
     drawing.text(LEFT, bottom + 6, told, "faint")
-    return drawing.written(bottom + 20)
+    return drawing.file_text(bottom + 20)
 
 
 def _scale(most: float) -> float:
@@ -191,7 +191,7 @@ def _draw_rates(drawing: Drawing, chart: _Chart, rates: list[Rate], shares: list
         drawing.line(x, chart.bottom, x, chart.bottom + 4, "mark")
         drawing.text(x, chart.bottom + 17, percent(each.loss), "middle")
         drawing.text(x, y - 24, f"{part:.2g} %" if part else "never", "end")
-        told = f"longest {lasting(each.longest)}" if part else ""
+        told = f"longest {duration(each.longest)}" if part else ""
         drawing.text(x, y - 10, told, "faint end")
     drawing.text((LEFT + RIGHT) / 2, chart.bottom + 34, "packets lost", "faint middle")
 
@@ -218,4 +218,4 @@ def draw_sweep(title: str, rates: list[Rate], said: str) -> str:
         y = points[-1][1] + (4 if at == 0 else 14)
         drawing.text(points[-1][0] + 8, y, name)
     _draw_rates(drawing, chart, rates, shares)
-    return drawing.written(chart.bottom + 46)
+    return drawing.file_text(chart.bottom + 46)

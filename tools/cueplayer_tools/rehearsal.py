@@ -25,7 +25,7 @@ class Event:
     def is_skipped(self) -> bool:
         return self.reply[:1] == ("skipped",)
 
-    def sent(self) -> list[int]:
+    def sent_universes(self) -> list[int]:
         """The universes of which a tick sent a packet, ascending."""
         items = (item.partition(":") for item in self.reply if ":s" in item)
         return [int(universe) for universe, _, _ in items]

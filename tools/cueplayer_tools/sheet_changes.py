@@ -54,7 +54,7 @@ def changes(before: Levels, after: Levels) -> list[Change]:
     return sorted(found, key=lambda change: (order.index(change.kind), change.channels[0]))
 
 
-def told(found: list[Change]) -> list[tuple[str, str]]:
+def change_lines(found: list[Change]) -> list[tuple[str, str]]:
     """The changes of each kind in words, and how many channels there are beyond those told."""
     shown, rest = found[:MOST_GROUPS], found[MOST_GROUPS:]
     lines = []

@@ -10,7 +10,7 @@ from cueplayer_tools.cue_list import read_show
 from cueplayer_tools.files import read_whole, write_out
 from cueplayer_tools.looks import looks_of
 from cueplayer_tools.sheet_page import Sheet, page_of
-from cueplayer_tools.words import Refused, counted
+from cueplayer_tools.words import Refused, count_of
 
 # One byte more than the longest show, so that the program refuses what is longer.
 MOST_READ = 1_048_577
@@ -24,7 +24,7 @@ def sheet_of(content: bytes, name: str, title: str | None) -> Sheet:
         show = read_show(str(file))
         looks = looks_of(str(file), show)
     digest = hashlib.sha256(content).hexdigest()
-    origin = f"{name}: {counted(len(show.cues), 'cue')}, SHA-256 {digest}"
+    origin = f"{name}: {count_of(len(show.cues), 'cue')}, SHA-256 {digest}"
     return Sheet(title or Path(name).name, origin, show, looks)
 
 

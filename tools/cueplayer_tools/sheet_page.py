@@ -6,7 +6,7 @@ from html import escape
 from cueplayer_tools.axis import clock
 from cueplayer_tools.cue_list import Cue, Rate, Record, Show
 from cueplayer_tools.looks import Look
-from cueplayer_tools.sheet_changes import changes, channel_levels, told
+from cueplayer_tools.sheet_changes import change_lines, changes, channel_levels
 from cueplayer_tools.words import cue_word
 
 _STYLE = """
@@ -62,11 +62,11 @@ def _rate(rate: Rate) -> str:
     return f"{clock(rate.time)}{delay}"
 
 
-def _followed(sheet: Sheet) -> dict[int, tuple[int, int]]:
+def _follow_ons(sheet: Sheet) -> dict[int, tuple[int, int]]:
     """The cues that go by themselves: behind which cue, and how long after it."""
     found = {}
     for number in sheet.show.order:
-        follow, following = sheet.show.cues[number].follow, sheet.show.following(number)
+        follow, following = sheet.show.cues[number].follow, sheet.show.next_cue(number)
         if follow is not None and following is not None:
             found[following] = number, follow
     return found
@@ -89,13 +89,13 @@ def _row(number: int, cue: Cue, by: tuple[int, int] | None, what: str) -> str:
 def _what(sheet: Sheet, number: int, before: dict[int, int]) -> tuple[str, dict[int, int]]:
     """What a cue changes, and the levels behind it."""
     after = channel_levels(sheet.show, sheet.looks[number])
-    lines = told(changes(before, after))
+    lines = change_lines(changes(before, after))
     text = "".join(f'<div><span class="kind">{kind}</span> {what}</div>' for kind, what in lines)
     return text or '<span class="faint">nothing</span>', after
 
 
 def _cues(sheet: Sheet) -> list[str]:
-    followed, rows = _followed(sheet), []
+    followed, rows = _follow_ons(sheet), []
     before: dict[int, int] = {}
     for number in sheet.show.order:
         what, before = _what(sheet, number, before)

@@ -22,7 +22,7 @@ def packets_behind(storm: Storm, stretch: Stretch) -> list[str]:
     for console in range(len(storm.consoles)):
         traffic = storm.traffic[console, stretch.universe]
         words = _fates(traffic, since, stretch.until)
-        words += _heard(storm, console, stretch, since)
+        words += _arrivals(storm, console, stretch, since)
         if len(words) > MOST_FATES:
             words = [*words[:MOST_FATES], f"and {len(words) - MOST_FATES} more"]
         if words:
@@ -54,10 +54,10 @@ def _fates(traffic: Traffic, since: int, until: int) -> list[str]:
             runs.append((fate, [], []))
         runs[-1][1].append(packet)
         runs[-1][2].append(late)
-    return [_told(*run) for run in runs]
+    return [_fate_text(*run) for run in runs]
 
 
-def _told(fate: str, packets: list[int], late: list[int]) -> str:
+def _fate_text(fate: str, packets: list[int], late: list[int]) -> str:
     if fate != "late":
         return f"{_range(packets)} {fate}"
     return f"{_range(packets)} {_range(sorted({min(late), max(late)}))} ms late"
@@ -67,7 +67,7 @@ def _range(packets: list[int]) -> str:
     return f"{packets[0]}-{packets[-1]}" if len(packets) > 1 else f"{packets[0]}"
 
 
-def _heard(storm: Storm, console: int, stretch: Stretch, since: int) -> list[str]:
+def _arrivals(storm: Storm, console: int, stretch: Stretch, since: int) -> list[str]:
     """What a receiver made, in a time, of packets that came behind newer ones."""
     found, newest = [], -1
     for moment, packet in storm.traffic[console, stretch.universe].came:

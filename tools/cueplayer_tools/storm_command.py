@@ -19,7 +19,7 @@ from cueplayer_tools.storm_night import (
     Plan,
     part_of,
     plan_of,
-    ticked,
+    with_ticks,
 )
 from cueplayer_tools.storm_report import data, fault_words, report
 from cueplayer_tools.storm_seen import Keep
@@ -86,7 +86,7 @@ def times_of(word: str) -> tuple[int, int]:
     raise argparse.ArgumentTypeError(f"not two times, such as 60000-64000: {word!r}")
 
 
-def _numbered(word: str) -> tuple[int, tuple[int, int]]:
+def _with_number(word: str) -> tuple[int, tuple[int, int]]:
     number, colon, times = word.partition(":")
     if not colon:
         told = f"not a number and two times, such as 1:60000-64000: {word!r}"
@@ -96,13 +96,13 @@ def _numbered(word: str) -> tuple[int, tuple[int, int]]:
 
 def cable_of(word: str) -> Outage:
     """`CONSOLE:FROM-UNTIL`."""
-    console, times = _numbered(word)
+    console, times = _with_number(word)
     return Outage(*times, console=console)
 
 
 def node_of(word: str) -> Outage:
     """`UNIVERSE:FROM-UNTIL`."""
-    universe, times = _numbered(word)
+    universe, times = _with_number(word)
     return Outage(*times, universe=universe)
 
 
@@ -182,7 +182,7 @@ def consoles_of(words: argparse.Namespace) -> list[Console]:
     return words.console or [Console(100)]
 
 
-def planned(words: argparse.Namespace) -> Plan:
+def plan_of_words(words: argparse.Namespace) -> Plan:
     """What a console does that takes the lines of the night."""
     show, text = read_show(words.show), text_of(words.night)
     given = part_of(read_record(text), None, words.until)
@@ -191,7 +191,7 @@ def planned(words: argparse.Namespace) -> Plan:
     last = max(line.moment for line in given)
     every = words.every or (None if text.startswith(RECORD_HEAD) else GRID)
     if every is not None:
-        given = ticked(given, show, every, words.until)
+        given = with_ticks(given, show, every, words.until)
     plan = plan_of(words.show, part_of(given, words.first, words.until), show, words.base)
     if every is not None and words.until is None:
         plan.leave_out_rest(last)
@@ -234,7 +234,7 @@ def _end(faults: list[Found]) -> int:
 
 
 def _run(words: argparse.Namespace) -> int:
-    plan, keep = planned(words), _keeper(words.scripts)
+    plan, keep = plan_of_words(words), _keeper(words.scripts)
     if words.sweep is not None:
         rates, faults = sweep_of(words, plan, keep)
         told = json.dumps(sweep_data(rates)) + "\n" if words.json else sweep_table(rates)

@@ -56,7 +56,7 @@ class Traffic:
     def repeated(self) -> int:
         return len(self.came) + len(self.lost) - len(self.sent)
 
-    def overtaken(self) -> int:
+    def overtakes(self) -> int:
         """How many came behind one that was sent later, or came before."""
         count, newest = 0, -1
         for _, packet in self.came:

@@ -10,7 +10,7 @@ from dataclasses import dataclass, field
 from hashlib import blake2b
 
 from cueplayer_tools.cue_list import Show
-from cueplayer_tools.night import LEAST_APART, filled
+from cueplayer_tools.night import LEAST_APART, fill_ticks
 from cueplayer_tools.record import Given
 from cueplayer_tools.rehearsal import MOST_RECEIVERS, replies_of
 from cueplayer_tools.words import Refused
@@ -146,7 +146,7 @@ def groups_of(universes: list[int]) -> Iterator[list[int]]:
         yield universes[start : start + MOST_RECEIVERS]
 
 
-def ticked(given: list[Given], show: Show, every: int, until: int | None = None) -> list[Given]:
+def with_ticks(given: list[Given], show: Show, every: int, until: int | None = None) -> list[Given]:
     """The lines of a night with ticks wherever they have none: up to a moment, or for as long as a
     last fade may take."""
     last = max(line.moment for line in given)
@@ -154,7 +154,7 @@ def ticked(given: list[Given], show: Show, every: int, until: int | None = None)
         until = last + max((cue.fade for cue in show.cues.values()), default=0) + BEHIND
     if until is not None and until > last:
         given = [*given, Given(until, ("tick",))]
-    return filled(given, max(every, LEAST_APART))
+    return fill_ticks(given, max(every, LEAST_APART))
 
 
 def part_of(given: list[Given], first: int | None, until: int | None) -> list[Given]:

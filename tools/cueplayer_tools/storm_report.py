@@ -24,7 +24,7 @@ def stamp(moment: int) -> str:
     return f"{front}:{rest // 1000:02}.{rest % 1000:03}"
 
 
-def lasting(time: int) -> str:
+def duration(time: int) -> str:
     """A length of time: 75 ms, 12.3 s, 1:02:03."""
     if time < 10_000:
         return f"{time} ms"
@@ -67,7 +67,7 @@ def _consoles(storm: Storm) -> list[str]:
             sum(len(cable.sent) for cable in traffic),
             sum(len(cable.lost) for cable in traffic),
             sum(cable.repeated for cable in traffic),
-            sum(cable.overtaken() for cable in traffic),
+            sum(cable.overtakes() for cable in traffic),
         )
         name = [f"{console}", f"{each.priority}", f"{each.late} ms"]
         rows.append([*name, *(f"{count}" for count in counts)])
@@ -78,9 +78,9 @@ def _consoles(storm: Storm) -> list[str]:
 def _universes(storm: Storm) -> list[str]:
     rows = [
         [
-            f"{each.universe}", lasting(each.wrong), share(each.wrong, each.whole),
-            lasting(each.longest), f"{each.off}", lasting(each.dark),
-            lasting(each.wrong - each.dark),
+            f"{each.universe}", duration(each.wrong), share(each.wrong, each.whole),
+            duration(each.longest), f"{each.off}", duration(each.dark),
+            duration(each.wrong - each.dark),
         ]
         for each in storm.verdicts
     ]  # fmt: skip
@@ -89,7 +89,7 @@ def _universes(storm: Storm) -> list[str]:
 
 def _stretches(storm: Storm) -> list[str]:
     rows = [[f"{each.universe}", *map(str, each.counts())] for each in storm.verdicts]
-    return table(("wrong for at least", *map(lasting, LENGTHS)), rows)
+    return table(("wrong for at least", *map(duration, LENGTHS)), rows)
 
 
 def _worst(storm: Storm) -> list[str]:
@@ -97,7 +97,7 @@ def _worst(storm: Storm) -> list[str]:
     for place, each in enumerate(worst(storm, MOST_WORST), 1):
         how = "held" if not each.dark else "held and dark"
         how = "dark" if each.dark == each.length else how
-        at = f"{stamp(each.first)} universe {each.universe} {how} for {lasting(each.length)}"
+        at = f"{stamp(each.first)} universe {each.universe} {how} for {duration(each.length)}"
         levels = f"slot {each.slot} at {each.level}, meant {each.meant}"
         lines.append(f"{place:3}. {at}: {levels}")
         lines += [f"     {line}" for line in packets_behind(storm, each)]
@@ -109,7 +109,7 @@ def _premises(storm: Storm) -> list[str]:
     for each in storm.verdicts:
         broken = sum(fault.until - fault.first for fault in each.faults)
         times = (each.whole, each.in_window, each.is_fresh, each.held, broken)
-        rows.append([f"{each.universe}", *map(lasting, times)])
+        rows.append([f"{each.universe}", *map(duration, times)])
     head = ("universe", "time", "in the window", "fresh", "promised", "promise broken")
     return table(head, rows)
 
@@ -117,7 +117,7 @@ def _premises(storm: Storm) -> list[str]:
 def fault_words(storm: Storm, fault: Fault) -> list[str]:
     """A fault of the program: where, what was shown, and the packets."""
     stretch = Stretch(fault.universe, fault.first, fault.until)
-    at = f"{stamp(fault.first)} universe {fault.universe} for {lasting(stretch.length)}"
+    at = f"{stamp(fault.first)} universe {fault.universe} for {duration(stretch.length)}"
     levels = f"slot {fault.slot} at {fault.level}, promised {fault.promised}"
     packets = newest_packets(storm, fault.universe, fault.first) + packets_behind(storm, stretch)
     return [f"FAULT {at}: {levels}", *(f"     {line}" for line in packets)]

@@ -4,7 +4,7 @@ from dataclasses import dataclass, replace
 
 from cueplayer_tools.storm_network import Cable, Network, Traffic
 from cueplayer_tools.storm_night import Console, Plan
-from cueplayer_tools.storm_report import lasting, percent, share, table
+from cueplayer_tools.storm_report import duration, percent, share, table
 from cueplayer_tools.storm_seen import Keep
 from cueplayer_tools.storm_verdict import LENGTHS, Fault, Storm, storm_of
 
@@ -36,7 +36,7 @@ class Rate:
             self.counts = tuple(map(sum, zip(self.counts, each.counts())))
 
 
-def carried(
+def carry(
     plan: Plan, consoles: list[Console], network: Network
 ) -> dict[tuple[int, int], Traffic]:
     """What a network makes of the packets of a night."""
@@ -53,7 +53,7 @@ def blown(
     plan: Plan, consoles: list[Console], network: Network, keep: Keep | None = None
 ) -> Storm:
     """What a network makes of a night."""
-    return storm_of(plan, consoles, carried(plan, consoles, network), network, keep)
+    return storm_of(plan, consoles, carry(plan, consoles, network), network, keep)
 
 
 @dataclass(frozen=True)
@@ -82,7 +82,7 @@ def swept(
 
 
 def sweep_table(rates: list[Rate]) -> str:
-    lengths = [f">= {lasting(length)}" for length in LENGTHS]
+    lengths = [f">= {duration(length)}" for length in LENGTHS]
     head = (
         "loss",
         "time",
@@ -96,9 +96,9 @@ def sweep_table(rates: list[Rate]) -> str:
     )
     rows = [
         [
-            percent(each.loss), lasting(each.time), lasting(each.wrong),
-            share(each.wrong, each.time), lasting(each.longest), f"{each.off}",
-            lasting(each.dark), f"{each.darks}", *map(str, each.counts),
+            percent(each.loss), duration(each.time), duration(each.wrong),
+            share(each.wrong, each.time), duration(each.longest), f"{each.off}",
+            duration(each.dark), f"{each.darks}", *map(str, each.counts),
         ]
         for each in rates
     ]  # fmt: skip

@@ -103,7 +103,7 @@ class Storm:
     def faults(self) -> list[Fault]:
         return [fault for verdict in self.verdicts for fault in verdict.faults]
 
-    def meant(self, universe: int) -> list[Change]:
+    def meant_changes(self, universe: int) -> list[Change]:
         """What the show means, by all consoles, from moment to moment."""
         moments = _Moments(self, universe)
         changes: list[Change] = []
@@ -151,7 +151,7 @@ class _Moments:
         self.promised: int | None = None
         self.state = together(self.premises)
 
-    def _merged(self, lit: list[int]) -> int:
+    def _merge(self, lit: list[int]) -> int:
         """What these consoles mean together: those of the greatest priority."""
         consoles = self.storm.consoles
         first = max((consoles[console].priority for console in lit), default=0)
@@ -160,10 +160,10 @@ class _Moments:
 
     def _settle(self) -> None:
         lit = [console for console, look in enumerate(self.means) if look is not None]
-        self.meant = self._merged(lit)
+        self.meant = self._merge(lit)
         self.state = together(self.premises)
         heard = [console for console in lit if not self.premises[console].is_silent]
-        self.promised = self._merged(heard) if self.state.hold else None
+        self.promised = self._merge(heard) if self.state.hold else None
 
     def _changes(self) -> list[Turn]:
         """What changes, in order."""

@@ -80,7 +80,7 @@ class Drawing:
             height = y
         return f"{path}H{number(end)}"
 
-    def written(self, height: float) -> str:
+    def file_text(self, height: float) -> str:
         """The picture as a file."""
         colours = [
             "".join(f"--c{place}:{value};" for place, value in enumerate(values))

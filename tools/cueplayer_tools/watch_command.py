@@ -94,7 +94,7 @@ class Watch:
             self.receive()
         if self.feed.waiting:
             self.feed.push()
-        lines = self.feed.said() if self.feed.output in ready else []
+        lines = self.feed.new_lines() if self.feed.output in ready else []
         for line in lines or []:
             self.tell(line)
         return lines is not None
@@ -217,7 +217,7 @@ def show(watch: Watch, over: Over) -> bool:
         screen.leave()
 
 
-def parsed(words: list[str]) -> argparse.Namespace:
+def parse_words(words: list[str]) -> argparse.Namespace:
     """The words of the command line."""
     parser = argparse.ArgumentParser(prog="watch", description=__doc__)
     parser.add_argument(
@@ -248,7 +248,7 @@ def complain(text: str) -> None:
     print(f"watch: {text}", file=sys.stderr, flush=True)
 
 
-def opened(chosen: argparse.Namespace, universes: list[int], is_quiet: bool) -> Watch:
+def open_watch(chosen: argparse.Namespace, universes: list[int], is_quiet: bool) -> Watch:
     """The watch that the words ask for; Refused or OSError where it cannot begin."""
     receiver = WatchSocket(universes, Card(chosen.interface), chosen.port)
     if receiver.lacking:
@@ -268,7 +268,7 @@ def run(chosen: argparse.Namespace, universes: list[int], over: Over) -> int:
     has_screen = (
         chosen.once is None and not chosen.lines and sys.stdin.isatty() and sys.stdout.isatty()
     )
-    watch = opened(chosen, universes, has_screen or chosen.once is not None)
+    watch = open_watch(chosen, universes, has_screen or chosen.once is not None)
     until = math.inf if chosen.once is None else watch.start + chosen.once
     try:
         ran = show(watch, over) if has_screen else follow(watch, until, over)
@@ -293,7 +293,7 @@ def last_lines(watch: Watch, is_summary: bool) -> list[str]:
 
 def main(words: list[str]) -> int:
     """Runs the tool with these words, and answers its exit status."""
-    chosen = parsed(words)
+    chosen = parse_words(words)
     try:
         return run(chosen, universes_of(chosen.universes), Over())
     except Refused as fault:

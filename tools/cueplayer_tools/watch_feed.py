@@ -45,7 +45,7 @@ class Feed:
             return
         del self.waiting[:written]
 
-    def said(self) -> list[str] | None:
+    def new_lines(self) -> list[str] | None:
         """The lines that the program has printed since the last look; None at their end."""
         try:
             came = os.read(self.output, CHUNK)

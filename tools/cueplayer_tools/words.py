@@ -38,7 +38,7 @@ def printable(text: str | bytes, longest: int = LONGEST_NAMED) -> str:
     return shown if len(text) <= longest else shown + ".."
 
 
-def counted(count: int, what: str) -> str:
+def count_of(count: int, what: str) -> str:
     """A count and what is counted, as `1 cue` and `2 cues`."""
     return f"{count} {what}" if count == 1 else f"{count} {what}s"
 

@@ -29,7 +29,7 @@ def group_of(universe: int) -> str:
     return "239.255.{}.{}".format(*divmod(universe, 256))
 
 
-def listening(host: str, port: int, universes: Sequence[int], card: str) -> socket.socket:
+def open_listener(host: str, port: int, universes: Sequence[int], card: str) -> socket.socket:
     """A socket at this address, which has joined the groups of these universes at a card."""
     listener = socket.socket(socket.AF_INET, socket.SOCK_DGRAM)
     try:
@@ -47,7 +47,7 @@ def listening(host: str, port: int, universes: Sequence[int], card: str) -> sock
     return listener
 
 
-def _received(listener: socket.socket) -> Heard:
+def _receive(listener: socket.socket) -> Heard:
     data, beside, _, sender = listener.recvmsg(LONGEST, 256)
     moment, to = time.time(), ""
     for level, kind, value in beside:
@@ -59,7 +59,7 @@ def _received(listener: socket.socket) -> Heard:
     return Heard(moment, data, sender, to)
 
 
-def heard(
+def hear(
     listener: socket.socket, seconds: float, each: Callable[[float], None] = lambda _: None
 ) -> list[Heard]:
     """What comes within so many seconds. `each` is told how many have gone by, a hundred
@@ -69,5 +69,5 @@ def heard(
     while (gone := time.monotonic() - begun) < seconds:
         each(gone)
         if select.select([listener], [], [], min(0.01, seconds - gone))[0]:
-            found.append(_received(listener))
+            found.append(_receive(listener))
     return found

@@ -60,7 +60,7 @@ def _all_remarks(kind: str, results: list[Result]) -> str:
     for result in results:
         if remarks := list(_remarks(result)):
             head = f"### {result.title} as a {kind}"
-            lines += [head, "", result.counted() + ".", "", *remarks, ""]
+            lines += [head, "", result.count_text() + ".", "", *remarks, ""]
     return "\n".join(lines).rstrip("\n")
 
 

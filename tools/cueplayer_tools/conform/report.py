@@ -66,7 +66,7 @@ class Result:
     def is_broken(self) -> bool:
         return any(each.verdict == BROKEN for each in self.rules)
 
-    def counted(self) -> str:
+    def count_text(self) -> str:
         """How many rules there are, and how many came to what."""
         verdicts = [each.verdict for each in self.rules]
         counts = ((verdicts.count(verdict), verdict) for verdict in COUNTED)
@@ -166,4 +166,4 @@ def table(result: Result) -> str:
         says = each.says()
         told = f"{each.verdict}: {says}" if says else each.verdict
         lines.append(f" {each.rule:{widest}}  {each.clause:{clause}}  {told}")
-    return "\n".join([*lines, "", result.counted()])
+    return "\n".join([*lines, "", result.count_text()])

@@ -9,7 +9,7 @@ TAKES_IT = "takes it"
 CUT_HEADERS = (0, 1, 4, 16, 22, 38, 44, 100, 125)
 
 
-def _spoiled(name: str, about: str, **fields: object) -> Case:
+def _spoil(name: str, about: str, **fields: object) -> Case:
     """A packet with a field that must not be."""
 
     def write(script: Script) -> None:
@@ -26,7 +26,7 @@ def _spoiled(name: str, about: str, **fields: object) -> Case:
 def _field(name: str, clause: str, asks: str, **cases: dict[str, object]) -> Rule:
     """A rule of one field, and values that it must not have."""
     found = (
-        _spoiled(case.replace("_", " "), f"{name} is wrong", **fields)
+        _spoil(case.replace("_", " "), f"{name} is wrong", **fields)
         for case, fields in cases.items()
     )
     return Rule(name, clause, asks, tuple(found))
@@ -74,7 +74,7 @@ def _fewer(count: int) -> Case:
     return Case(f"{count} after 512", write, plain, (KEEPS,), is_open=True)
 
 
-def _trailing(script: Script) -> None:
+def _extra_bytes(script: Script) -> None:
     one = script.source()
     one.send({1: 10})
     packet = one.packet({1: 20})
@@ -83,7 +83,7 @@ def _trailing(script: Script) -> None:
 
 
 def _start_code(code: int) -> Case:
-    return _spoiled(f"{code:02x}", f"START code {code:02x} is not for levels", start_code=code)
+    return _spoil(f"{code:02x}", f"START code {code:02x} is not for levels", start_code=code)
 
 
 def _cut(script: Script) -> None:
@@ -205,6 +205,6 @@ RULES = (
         "bytes after the packet",
         "5.4",
         "What happens with bytes after a packet is left open",
-        (Case("four", _trailing, "ignores the bytes", ("ignores the packet",), is_open=True),),
+        (Case("four", _extra_bytes, "ignores the bytes", ("ignores the packet",), is_open=True),),
     ),
 )

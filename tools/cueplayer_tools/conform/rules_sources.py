@@ -62,7 +62,7 @@ def _beyond(script: Script) -> None:
 NEWEST, FIRST, LAST = "the newest source alone", "the first source alone", "the last packet"
 
 
-def _merged(script: Script) -> None:
+def _merge(script: Script) -> None:
     one, other = script.source(), script.source()
     script.send(one.packet({1: 10, 2: 90}))
     script.send(other.packet({1: 20, 2: 30}), unheard=(FIRST,))
@@ -107,7 +107,7 @@ def _lit(packets: list[DataPacket]) -> bytes:
     return bytes(map(max, *(packet.slots for packet in packets), bytes(512)))
 
 
-def _moved(script: Script) -> None:
+def _move(script: Script) -> None:
     one = script.source()
     one.send({1: 50})
     script.send(one.packet({1: 20}), sender=1)
@@ -167,7 +167,7 @@ RULES = (
         (
             Case(
                 "two sources",
-                _merged,
+                _merge,
                 "the highest level of each slot",
                 (FIRST, NEWEST, LAST),
                 is_open=True,
@@ -188,7 +188,7 @@ RULES = (
             ),
         ),
     ),
-    Rule("CID", "5.6", "A source is its CID, wherever it sends from", (Case("moved", _moved),)),
+    Rule("CID", "5.6", "A source is its CID, wherever it sends from", (Case("moved", _move),)),
     Rule(
         "source name",
         "6.2.2",

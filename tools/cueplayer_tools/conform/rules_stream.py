@@ -26,7 +26,7 @@ def _numbers(first: int, second: int, about: str) -> Case:
     return Case(f"{first} then {second}", write)
 
 
-def _wrapped(script: Script) -> None:
+def _wrap(script: Script) -> None:
     one = script.source()
     one.send({1: 10}, number=255)
     one.send({1: 20}, number=0)
@@ -172,7 +172,7 @@ def _never_synchronized(script: Script) -> None:
     script.look("data with an address, of which no synchronization packet ever came")
 
 
-def _synchronized(script: Script) -> None:
+def _synchronization(script: Script) -> None:
     one = script.source()
     address = script.universe
     one.send({1: 10}, synchronization=address)
@@ -220,7 +220,7 @@ RULES = (
         "numbering wrap",
         "6.7.2",
         "Number 0 comes after 255",
-        (Case("0 after 255", _wrapped), _numbers(5, 250, "250 is 11 behind 5")),
+        (Case("0 after 255", _wrap), _numbers(5, 250, "250 is 11 behind 5")),
     ),
     Rule(
         "numbering by source",
@@ -315,7 +315,7 @@ RULES = (
         "Whether a receiver synchronizes is left open",
         (
             Case("never came", _never_synchronized, "shows it at once", (WAITS,), is_open=True),
-            Case("came", _synchronized, "shows it at once", (WAITS,), is_open=True),
+            Case("came", _synchronization, "shows it at once", (WAITS,), is_open=True),
         ),
     ),
     Rule(

@@ -121,7 +121,7 @@ def _numbers(heard: Listening) -> Iterator[str]:
                 yield f"universe {stream.universe}: number {packet.number} after {last.number}"
 
 
-def _reserved(heard: Listening) -> Iterator[str]:
+def _options(heard: Listening) -> Iterator[str]:
     for packet in heard.packets:
         if packet.options & RESERVED:
             yield f"{packet.where}: options {packet.options:02x}; the reserved bits are 0"
@@ -209,15 +209,15 @@ def _previews(heard: Listening) -> str:
     return "some" if any(packet.options & PREVIEW for packet in heard.packets) else "none"
 
 
-def _synchronized(heard: Listening) -> str:
-    if heard.extended(SYNCHRONIZATION):
+def _synchronization(heard: Listening) -> str:
+    if heard.extended_packets(SYNCHRONIZATION):
         return "sends synchronization packets"
     used = any(packet.synchronization for packet in heard.packets)
     return "data waits for synchronization, and no such packet came" if used else "not used"
 
 
-def _discovered(heard: Listening) -> str:
-    if heard.extended(DISCOVERY):
+def _discovery(heard: Listening) -> str:
+    if heard.extended_packets(DISCOVERY):
         return "sends discovery packets"
     if heard.ended - heard.begun < DISCOVERY_INTERVAL:
         return f"none within {heard.ended - heard.begun:.0f} s; they come each 10 s"
@@ -239,7 +239,7 @@ RULES = (
         "synchronized by", "6.2.4", "The synchronization address is 0 or a universe", _addresses
     ),
     SourceRule("numbering", "6.2.5", "The numbers of a universe rise by one", _numbers),
-    SourceRule("reserved options", "6.2.6", "The reserved bits of the options are 0", _reserved),
+    SourceRule("reserved options", "6.2.6", "The reserved bits of the options are 0", _options),
     SourceRule("universe", "6.2.7, 9.3", "Each universe goes to its group", _universes),
     SourceRule("repeats", "6.6.2", "Levels are sent three times before a pause", _repeats),
     SourceRule("keep-alive", "6.6.2", "A live stream never pauses for 1 s", _alive),
@@ -248,8 +248,10 @@ RULES = (
     SourceRule("priorities sent", "6.2.3", "Which priorities are sent", None, _sent_priorities),
     SourceRule("START codes", "7.7", "Which START codes are sent", None, _start_codes),
     SourceRule("previews", "6.2.6", "Whether previews are sent", None, _previews),
-    SourceRule("synchronization", "11", "Whether universes are synchronized", None, _synchronized),
-    SourceRule("universe discovery", "4.3, 8", "Whether universes are listed", None, _discovered),
+    SourceRule(
+        "synchronization", "11", "Whether universes are synchronized", None, _synchronization
+    ),
+    SourceRule("universe discovery", "4.3, 8", "Whether universes are listed", None, _discovery),
 )
 
 

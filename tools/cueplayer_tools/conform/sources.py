@@ -7,7 +7,7 @@ from collections.abc import Callable
 from pathlib import Path
 from typing import Protocol
 
-from cueplayer_tools.conform.capture import listening
+from cueplayer_tools.conform.capture import open_listener
 from cueplayer_tools.conform.network import HERE
 from cueplayer_tools.conform.open_lighting import Daemon
 from cueplayer_tools.conform.packets import DataPacket, full_slots
@@ -67,7 +67,7 @@ class OwnSource:
         self.name = "cueplayer live"
         version = run("--version").printed.splitlines()
         self.version = version[0].removeprefix("cueplayer ") if version else "unknown"
-        self.listener = listening("127.0.0.1", 0, (), "")
+        self.listener = open_listener("127.0.0.1", 0, (), "")
         self.folder = tempfile.TemporaryDirectory(prefix="conform-")
         show = Path(self.folder.name, "show.asc")
         show.write_text(SHOW)
@@ -101,7 +101,7 @@ class OpenLightingSource:
     name = "OLA"
 
     def __init__(self) -> None:
-        self.listener = listening("0.0.0.0", PORT, (1,), HERE)
+        self.listener = open_listener("0.0.0.0", PORT, (1,), HERE)
         self.daemon = Daemon(1, 1)
         self.version = self.daemon.version
         self.daemon.patch(0, 1)
@@ -123,7 +123,7 @@ class QlcPlusSource:
     name = "QLC+"
 
     def __init__(self) -> None:
-        self.listener = listening(*READ_AT, (), "")
+        self.listener = open_listener(*READ_AT, (), "")
         self.qlcplus = QlcPlus(1)
         self.version = self.qlcplus.version
         self.sockets = Sockets(GROUPS, source=HERE)

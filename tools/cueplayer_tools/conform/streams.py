@@ -121,7 +121,7 @@ class Listening:
             found.setdefault((packet.cid, packet.universe), []).append(packet)
         return tuple(Stream(tuple(packets)) for packets in found.values())
 
-    def extended(self, vector: int) -> list[Heard]:
+    def extended_packets(self, vector: int) -> list[Heard]:
         """The discovery or the synchronization packets."""
         found = [each for each in self.others if is_extended(each.data)]
         return [each for each in found if int.from_bytes(each.data[40:44], "big") == vector]

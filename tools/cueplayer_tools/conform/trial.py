@@ -67,7 +67,7 @@ class Played:
     fault: str = ""
 
 
-def judged(played: Played, settle: int) -> Verdict:
+def judge(played: Played, settle: int) -> Verdict:
     """Which reading of a case the looks are of."""
     rule, case = played.rule, played.case
     if played.fault:
@@ -178,7 +178,7 @@ class Setting:
     salt: str = ""
 
 
-def _played(trial: Trial, cases: list[tuple[Rule, Case]]) -> list[Played]:
+def _play(trial: Trial, cases: list[tuple[Rule, Case]]) -> list[Played]:
     """The cases as they were played, up to the moment when the peer ended, if it did: where one
     case alone was in play, that one ended it."""
     try:
@@ -206,8 +206,8 @@ def _judged_once(setting: Setting, cases: list[tuple[Rule, Case]], salt: str) ->
             about = f"it does not come back: {fault}"
             return found + [Verdict(rule, case, NOT_TRIED, about=about) for rule, case in left]
         trial = Trial(peer, setting.clock, setting.settle, salt)
-        played = _played(trial, left[:1] if alone else left)
-        found += [judged(each, setting.settle) for each in played]
+        played = _play(trial, left[:1] if alone else left)
+        found += [judge(each, setting.settle) for each in played]
         there = {(each.rule.name, each.case.name) for each in played}
         left = [each for each in left if (each[0].name, each[1].name) not in there]
         alone = True
@@ -216,7 +216,7 @@ def _judged_once(setting: Setting, cases: list[tuple[Rule, Case]], salt: str) ->
     return found
 
 
-def tried(setting: Setting, keeps_time: bool, rules: tuple[Rule, ...]) -> list[Verdict]:
+def try_all(setting: Setting, keeps_time: bool, rules: tuple[Rule, ...]) -> list[Verdict]:
     """The verdicts of all cases, in their order. What was broken is tried once more, since a
     network may lose a packet, and so is what was late; the last time counts."""
     cases = [(rule, case) for rule in rules for case in rule.cases]
