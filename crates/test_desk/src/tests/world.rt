@@ -3,6 +3,7 @@ ghost use Rattle.rehearsal.specs.Refusing.{are_within as are_within_size};
 ghost use Rattle.rehearsal.specs.Refusing.{stray_fits as is_within_size};
 
 use super::are_printed;
+use super::shows::{Part, TWO_CUES, show_with};
 use desk::{Command, Refused, Ticked};
 use fade::PlainFader;
 use rehearsal::{
@@ -11,65 +12,20 @@ use rehearsal::{
 use sacn_packet::{SourceName, Unreadable};
 use sacn_receiver::Ignored;
 use sacn_source::{Identity, Offered};
-use show::{BuildFault, CueTime, Rate, Show};
+use show::{BuildFault, Show};
 use std::alloc::{AllocError, Global};
 use std::process::Abort;
 use std::test::Fail;
 
-// Adds a cue with one channel at full.
-fn add_cue(rt: &impl Abort, show: &mut Show, n: u32, channel: u16) -> Result<(), BuildFault> {
-    show.open_cue(n)?;
-    assert!(rt; show.cue(n).is_some());
-    show.cue_level(n, channel, 255)
-}
-
-fn rise_over(rt: &impl Abort, show: &mut Show, n: u32, time: u16) {
-    let rate = Rate {
-        time: u32::from(time),
-        delay: 0,
-    };
-    assert!(rt; show.cue(n).is_some());
-    show.set_time(n, CueTime::Up(rate));
-}
-
-fn fall_over(rt: &impl Abort, show: &mut Show, n: u32, time: u16) {
-    let rate = Rate {
-        time: u32::from(time),
-        delay: 0,
-    };
-    assert!(rt; show.cue(n).is_some());
-    show.set_time(n, CueTime::Down(rate));
-}
-
-fn add_two_cues(rt: &impl Abort, show: &mut Show) -> Result<(), BuildFault> {
-    add_cue(rt, show, 1000, 1)?;
-    add_cue(rt, show, 2000, 2)?;
-    rise_over(rt, show, 1000, 5000);
-    rise_over(rt, show, 2000, 2000);
-    fall_over(rt, show, 2000, 4000);
-    Ok(())
-}
-
-fn add_sub_and_dimmers(rt: &impl Abort, show: &mut Show) -> Result<(), BuildFault> {
-    show.open_sub(1)?;
-    assert!(rt; show.sub(1).is_some());
-    show.sub_level(1, 1, 128)?;
-    show.set_patch(1, 1, 255)?;
-    show.set_patch(2, 2, 255)
-}
-
-fn add_records(rt: &impl Abort, show: &mut Show) -> Result<(), BuildFault> {
-    add_two_cues(rt, show)?;
-    add_sub_and_dimmers(rt, show)
-}
-
-// Cue 1 brings channel 1 to full over five seconds; cue 2 brings channel 2 to full over two, and
-// channel 1 out over four. Submaster 1 has channel 1 at half. Dimmers 1 and 2 are patched to
-// channels 1 and 2 at full.
-fn small_show(rt: &impl Abort, alloc: Global) -> Result<Show, BuildFault> {
-    let mut show = Show::new(alloc);
-    add_records(rt, &mut show)?;
-    Ok(show)
+// Two cues; submaster 1 has channel 1 at half, and dimmers 1 and 2 are patched to channels 1 and 2
+// at full.
+fn small_show(alloc: Global) -> Result<Show, BuildFault> {
+    let rest = [
+        Part::Sub(1, 1, 128),
+        Part::Patch(1, 1, 255),
+        Part::Patch(2, 2, 255),
+    ];
+    show_with(alloc, TWO_CUES, &rest)
 }
 
 // A console of the first show with base 1.
@@ -235,7 +191,7 @@ fn is_told_of(report: &Report, steps: &[Step], last: u8) -> bool {
 
 // The report of these steps over the small show.
 fn report_of(rt: &impl Abort, alloc: Global, steps: &[Step]) -> Result<Report, Fail> {
-    let shows = [small_show(rt, alloc)?];
+    let shows = [small_show(alloc)?];
     let events = events_of(alloc, steps)?;
     Ok(rehearsal_of(rt, alloc, &shows, events.as_slice())?)
 }
@@ -263,9 +219,9 @@ fn rehearse_basic(rt: HostRuntime) -> Result<(), Fail> {
 }
 
 // The small show, also where an allocation for it fails.
-fn show_at_last(rt: &impl Abort, alloc: Global) -> Result<Show, BuildFault> {
-    match small_show(rt, alloc) {
-        Err(_) => small_show(rt, alloc),
+fn show_at_last(alloc: Global) -> Result<Show, BuildFault> {
+    match small_show(alloc) {
+        Err(_) => small_show(alloc),
         answer => answer,
     }
 }
@@ -284,7 +240,7 @@ const SHORT: &[Event] = &[
 // How many replies a short rehearsal has, and how many receivers at the end, also where an
 // allocation is refused.
 fn sizes_at_last(rt: &impl Abort, alloc: Global) -> Result<(usize, usize), Fail> {
-    let shows = [show_at_last(rt, alloc)?];
+    let shows = [show_at_last(alloc)?];
     let answer = match rehearsal_of(rt, alloc, &shows, SHORT) {
         Err(Fault::Memory) => rehearsal_of(rt, alloc, &shows, SHORT),
         answer => answer,
@@ -363,7 +319,7 @@ fn wrap_events(alloc: Global) -> Result<Vec<Event>, AllocError> {
 
 #[test]
 fn window_wrap(rt: HostRuntime) -> Result<(), Fail> {
-    let shows = [small_show(&rt, rt.alloc())?];
+    let shows = [small_show(rt.alloc())?];
     let events = wrap_events(rt.alloc())?;
     let report = rehearsal_of(&rt, rt.alloc(), &shows, events.as_slice())?;
     let replies = report.replies.as_slice();
@@ -378,7 +334,7 @@ fn window_wrap(rt: HostRuntime) -> Result<(), Fail> {
 // A setup names the second of one show.
 #[test]
 fn show_not_there(rt: HostRuntime) -> Result<(), Fail> {
-    let shows = [show_at_last(&rt, rt.alloc())?];
+    let shows = [show_at_last(rt.alloc())?];
     let mut other = console(&rt);
     other.show = 1;
     let answer = rehearsed_by(&rt, rt.alloc(), &shows, other, SHORT);
