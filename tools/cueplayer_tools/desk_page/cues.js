@@ -22,7 +22,7 @@ function timesOf(cue) {
   return isOne ? `up and down ${rate(cue.up)}` : `up ${rate(cue.up)}, down ${rate(cue.down)}`;
 }
 
-function named(number) {
+function cueWords(number) {
   if (!page.state.placed) return "not known yet";
   if (number === null) return "none";
   return `${number} ${page.cues.get(number)?.name ?? ""}`.trim();
@@ -90,7 +90,7 @@ function goTo(number, isAtOnce, pressed) {
   selectCue(null);
 }
 
-const doubleTapGoes = () => kept("double-tap") === "goes";
+const doubleTapGoes = () => savedValue("double-tap") === "goes";
 
 function moveInCues(event) {
   const buttons = [...page.cues.values()].map((cue) => cue.button);
@@ -113,9 +113,9 @@ function focusable(buttons, chosen) {
 }
 
 function showCues(state, before) {
-  setText("current", named(state.current));
-  setText("next", named(state.next));
-  document.title = state.current === null ? byId("title").textContent : named(state.current);
+  setText("current", cueWords(state.current));
+  setText("next", cueWords(state.next));
+  document.title = state.current === null ? byId("title").textContent : cueWords(state.current);
   for (const [number, cue] of page.cues) {
     if (number === state.current) cue.button.setAttribute("aria-current", "true");
     else cue.button.removeAttribute("aria-current");
@@ -140,14 +140,14 @@ function scrollCues(state) {
 }
 
 // How much of a time is left; null where that is not known.
-function left(span) {
+function restOf(span) {
   if (!span || span.elapsed === null) return null;
   return Math.max(span.whole - span.elapsed - (performance.now() - page.stateAt), 0);
 }
 
 function showFade() {
   const fade = page.state?.fade ?? null;
-  const rest = left(fade);
+  const rest = restOf(fade);
   const isRunning = rest !== null && rest > 0;
   byId("fade").value = !fade ? 0 : isRunning ? 1 - rest / fade.whole : 1;
   const isUnknown = !fade && Boolean(page.state?.current);
@@ -156,7 +156,7 @@ function showFade() {
 
 function showFollow() {
   const follow = page.state?.follow ?? null;
-  const rest = left(follow);
+  const rest = restOf(follow);
   const next = page.state?.next;
   const when = rest === null ? "by itself" : `by itself in ${tenths(rest)}`;
   setText("follow", follow && next ? `Cue ${next} follows ${when}` : "");

@@ -10,7 +10,7 @@ const MOST_NOTICES = 3;
 
 // ---- what is kept in this browser
 
-function kept(name) {
+function savedValue(name) {
   try {
     return localStorage.getItem(name);
   } catch {
@@ -177,21 +177,21 @@ function setText(id, words) {
   if (part.textContent !== words) part.textContent = words;
 }
 
-function pressed(buttons, chosen) {
+function markPressed(buttons, chosen) {
   for (const button of buttons) button.setAttribute("aria-pressed", String(button === chosen));
 }
 
 function showView(view) {
   document.body.dataset.view = view;
   const buttons = document.querySelectorAll("[data-to]");
-  pressed(buttons, [...buttons].find((button) => button.dataset.to === view));
+  markPressed(buttons, [...buttons].find((button) => button.dataset.to === view));
   if (page.state !== null) scrollCues(page.state);
 }
 
 function showTheme(theme) {
   document.documentElement.dataset.theme = theme;
   const buttons = document.querySelectorAll("[data-theme-is]");
-  pressed(buttons, [...buttons].find((button) => button.dataset.themeIs === theme));
+  markPressed(buttons, [...buttons].find((button) => button.dataset.themeIs === theme));
 }
 
 function showDoubleTap() {
@@ -338,7 +338,7 @@ document.addEventListener("keyup", pressKey);
 // A tablet that is turned shows the current cue too.
 window.addEventListener("resize", () => { if (page.state !== null) scrollCues(page.state); });
 buildGrid();
-showTheme(kept("theme") ?? "auto");
+showTheme(savedValue("theme") ?? "auto");
 showDoubleTap();
 // Only this machine's own addresses, and encrypted pages, have locks.
 if (navigator.locks) takePlace(1);
