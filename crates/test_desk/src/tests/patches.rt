@@ -165,16 +165,16 @@ fn put(levels: &mut [u16; 4096], channels: &[u16], level: u16) {
     }
 }
 
-// Puts some channels to a level, and tells whether the slots that are drawn anew for them alone are
-// those that are drawn as a whole.
+// Puts the channels of a row to its level, and tells whether the slots that are drawn anew for them
+// alone are those that are drawn as a whole.
 fn redraws(
     rt: &impl Abort,
     rig: &Rig,
     slots: &mut [u8; 8192],
     levels: &mut [u16; 4096],
-    channels: &[u16],
-    level: u16,
+    row: (&[u16], u16),
 ) -> bool {
+    let (channels, level) = row;
     put(levels, channels, level);
     assert!(rt; are_levels(levels) && are_channels(channels));
     rig.redraw(slots, channels, levels, 200);
@@ -193,10 +193,11 @@ fn redraw_of_some_channels(rt: HostRuntime) -> Result<(), Fail> {
         (&[7, 4096, 5], 32640),
         (&[], 0),
     ];
-    for (channels, level) in rows {
+    for row in rows {
         assert!(rt;
-            redraws(&rt, &rig, &mut slots, &mut levels, channels, *level),
-            "to {level}"
+            redraws(&rt, &rig, &mut slots, &mut levels, *row),
+            "to {}",
+            row.1
         );
     }
     Ok(())
