@@ -32,6 +32,12 @@ cp "$PROVER_TOP/made" crates/cueplayer/out/cueplayer
 echo "7 passed, 0 failed"
 """
 
+# Tries of edits that tell their words.
+EDITS = """#!/bin/sh
+echo "edits: $*"
+echo "3 passed, 0 failed"
+"""
+
 CRATES = """# A comment: no crate.
 show: arrayvec
 low: thiserror
@@ -75,6 +81,8 @@ class CopiedLayout(unittest.TestCase):
         self.write("bin/rt", PROVER)
         self.write("proving", "")
         self.write("tests/run", "#!/bin/sh\necho '4 passed, 0 failed'\n")
+        self.write("dev/edits", EDITS)
+        self.write("dev/wrong-programs", "#!/bin/sh\necho '2 passed, 0 failed'\n")
         self.ship(MADE)
 
     def write(self, name: str, content: str | bytes) -> Path:

@@ -31,6 +31,11 @@ def kept_output(crate: str) -> str:
     return f"echo 'rt: {crate} is kept: an earlier run on this machine proved the same'\n"
 
 
+def kit_named(name: str) -> str:
+    """The prover of a kit with this name."""
+    return PROVER.replace("kit of a test", name)
+
+
 # Leaves the number of its process where the tests look for it, and takes long.
 GOES_ON = 'echo $$ >"$PROVER_TOP/number"\nexec sleep 60\n'
 
@@ -227,6 +232,7 @@ class Building(CopiedLayout):
         self.assertEqual((1, "", told), (status, out, err))
 
     @unittest.skipUnless(os.geteuid() == 0, "only root can be somebody else")
+    @unittest.skipUnless(os.stat(os.devnull).st_mode & 0o002, f"{os.devnull} is not everybody's")
     def test_read_only(self):
         os.chmod(self.above, 0o755)
         (self.top / "tmp").mkdir()
@@ -259,20 +265,36 @@ class Gate(CopiedLayout):
         self.assertEqual((status, line), (got, out.splitlines()[-1]), err)
         self.assertIn(telling, err)
 
-    def test_sums_both_runs(self):
+    def test_sums_all_runs(self):
         """The comparison of dist/ counts as one."""
-        self.assertCloses(0, "12 passed, 0 failed")
+        self.assertCloses(0, "17 passed, 0 failed")
 
     def test_fails_with_either_run(self):
         self.write("tests/run", "#!/bin/sh\necho '2 passed, 2 failed'\nexit 1\n")
-        self.assertCloses(1, "10 passed, 2 failed")
+        self.assertCloses(1, "15 passed, 2 failed")
         self.write("tests/run", "#!/bin/sh\nexit 1\n")
-        self.assertCloses(1, "8 passed, 1 failed")
+        self.assertCloses(1, "13 passed, 1 failed")
         self.write(
             "bin/rt", PROVER.replace("7 passed, 0 failed", "6 passed, 1 failed") + "exit 1\n"
         )
         self.write("tests/run", "#!/bin/sh\necho '4 passed, 0 failed'\n")
-        self.assertCloses(1, "11 passed, 1 failed")
+        self.assertCloses(1, "16 passed, 1 failed")
+
+    def test_fails_with_an_edit(self):
+        """One that is not refused, or a wrong program that nothing catches."""
+        self.write("dev/edits", "#!/bin/sh\necho '2 passed, 1 failed'\nexit 1\n")
+        self.assertCloses(1, "16 passed, 1 failed")
+        self.write("dev/wrong-programs", "#!/bin/sh\necho '1 passed, 1 failed'\nexit 1\n")
+        self.assertCloses(1, "15 passed, 2 failed")
+
+    def test_draws_by_another_word_each_time(self):
+        """No author of a change knows which crates' edits are tried in any case."""
+        words = [
+            re.search(r"(?m)^edits: --held --draw ([0-9a-f]{16})$", self.run_script(".ci/run")[1])
+            for _ in range(2)
+        ]
+        self.assertTrue(all(words))
+        self.assertNotEqual(*(word[1] for word in words))
 
     def test_without_a_program(self):
         """A program that an earlier run left is not taken for one that this run proved."""
@@ -294,16 +316,27 @@ class Gate(CopiedLayout):
                     re.sub("sources: .*", "sources: x", self.provenance.read_text())
                 ),
             ),
-            ("toolchain", lambda: self.write("bin/rt", PROVER.replace("kit of", "newer kit of"))),
+            ("toolchain", lambda: self.write("bin/rt", kit_named("kit-2 logic 0f"))),
             ("version", lambda: (self.top / "VERSION").write_text("2.0.0\n")),
             ("version, toolchain, sources, program", self.provenance.unlink),
         )
         for name, change in changes:
             with self.subTest(name):
                 change()
-                self.assertCloses(1, "11 passed, 1 failed", told.format(name))
+                self.assertCloses(1, "16 passed, 1 failed", told.format(name))
                 self.assertEqual(0, self.run_script("build")[0])
-                self.assertCloses(0, "12 passed, 0 failed")
+                self.assertCloses(0, "17 passed, 0 failed")
+
+    def test_kits_of_one_logic(self):
+        """Another kit of the same logic builds the same: PROVENANCE keeps the name of the first."""
+        self.write("bin/rt", kit_named("kit-1 logic 0e"))
+        self.assertEqual(0, self.run_script("build")[0])
+        before = self.provenance.read_text()
+        self.assertIn("\ntoolchain: kit-1 logic 0e\n", before)
+        self.write("bin/rt", kit_named("kit-2 logic 0e"))
+        self.assertCloses(0, "17 passed, 0 failed")
+        self.assertEqual(0, self.run_script("build")[0])
+        self.assertEqual(before, self.provenance.read_text())
 
     def test_tests_what_is_shipped(self):
         """The tests run the program of dist/; where that is another, they run the one that was

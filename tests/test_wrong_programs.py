@@ -14,6 +14,8 @@ from generators.wrong_programs import FOLDER, edited_files, wrong_programs  # no
 
 # The crates of which no contract says more than that they are safe and end.
 SHELL = ("system_devices/src/", "cueplayer/src/")
+# No contract says that there is memory: what always answers Memory is proved, in any crate.
+PROVED = "always_memory"
 
 
 def find(name: str) -> type | object:
@@ -32,7 +34,8 @@ class WrongPrograms(unittest.TestCase):
         for program in wrong_programs():
             with self.subTest(program.name):
                 self.assertTrue(edited_files(program, TOP / "crates"))
-                self.assertTrue(all(edit.file.startswith(SHELL) for edit in program.edits))
+                is_shell = all(edit.file.startswith(SHELL) for edit in program.edits)
+                self.assertEqual("" if is_shell else PROVED, program.wrong_body)
 
     def test_tests_are_there(self) -> None:
         for program in wrong_programs():

@@ -2,7 +2,7 @@
 
 from pathlib import Path
 
-from generators import calls, examples_page, synopsis, wrong_programs
+from generators import calls, examples_page, specified_bodies, synopsis, wrong_programs
 from generators.command_line import jobs
 from generators.marks import TOP, with_block
 
@@ -15,6 +15,7 @@ def blocks() -> dict[str, dict[str, str]]:
             manual[f"the options of {job.name}"] = synopsis.manual_options(job)
     return {
         "README.md": {"the synopsis": synopsis.readme()},
+        "docs/DESIGN.md": {"the wrong bodies": specified_bodies.table()},
         "docs/FORMATS.md": {"the synopsis": synopsis.formats()},
         "man/cueplayer.1": manual,
         "completion/cueplayer.bash": {"the jobs and options": synopsis.completion()},

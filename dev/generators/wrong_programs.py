@@ -1,11 +1,12 @@
 """The wrong programs of tests/wrong_programs/: what each has wrong, which tests catch it, and the
 edit of the sources that makes it; and the table of them in docs/PROVED.md.
 
-A file has lines of four kinds:
+A file has lines of five kinds:
 
     wrong: WORDS                      what is wrong, as the table tells it
     caught: [NAME=VALUE ..] TEST ..   the variables and the names of the tests: a module, a class
                                       of it, or one test
+    wrong body: NAME                  where a contract lets it through: which wrong body it is
     file: CRATE/src/FILE.rt           below crates/
     old: TEXT                         it stands there once
     new: TEXT                         in its place
@@ -36,6 +37,7 @@ class WrongProgram(NamedTuple):
     tests: list[str]
     environment: dict[str, str]
     edits: list[Edit]
+    wrong_body: str = ""
 
     def row(self) -> str:
         """Its row of the table."""
@@ -63,6 +65,8 @@ def read_program(path: Path) -> WrongProgram:
                     program.environment[name] = value
                 else:
                     program.tests.append(name)
+        elif word == "wrong body":
+            program = program._replace(wrong_body=text)
         elif word == "file":
             file = text
         elif word == "old":
