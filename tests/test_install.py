@@ -121,15 +121,15 @@ class Install(CopiedLayout):
         self.assertIn("is not on PATH", out)
 
     def test_tools(self):
-        """Each starts, tells its options, and leaves nothing behind; without Python it says so."""
+        """Each starts, tells its use, and leaves nothing behind; without Python it says so."""
         self.install(self.prefix)
-        for tool in TOOLS:
+        for tool in ("night", *TOOLS):
             with self.subTest(tool):
                 starter = self.prefix / f"bin/cueplayer-{tool}"
                 path = f"{os.path.dirname(sys.executable)}:{os.environ['PATH']}"
                 status, out, err = self.run_installed("--help", at=starter, path=path)
                 self.assertEqual((0, ""), (status, err))
-                self.assertIn("--help", out)
+                self.assertIn("usage: ", out)
                 bare = self.top / "bare"
                 bare.mkdir(exist_ok=True)
                 for name in ("sh", "readlink"):

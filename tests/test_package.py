@@ -151,8 +151,8 @@ class Made(Package):
         self.assertRuns(*dpkg, "--install", package)
         self.assertPlays(root / "usr/bin/cueplayer")
         self.assertIn("commit: ", self.assertRuns(root / "usr/bin/cueplayer", "--version"))
-        for tool in TOOLS:
-            self.assertIn("--help", self.assertRuns(root / f"usr/bin/cueplayer-{tool}", "--help"))
+        for tool in ("night", *TOOLS):
+            self.assertIn("usage: ", self.assertRuns(root / f"usr/bin/cueplayer-{tool}", "--help"))
         self.assertRuns(*dpkg, "--purge", "cueplayer")
         left = {name for name in files(root) - before if not name.startswith("var/lib/dpkg/")}
         self.assertEqual(set(), left)

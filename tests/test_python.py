@@ -10,9 +10,13 @@ import unittest
 from program import TOP
 
 NAMES = ("conform", "convert", "desk", "osc", "picture", "sheet", "storm", "watch")
-TOOLS = [TOP / "tools/cueplayer_tools", *(TOP / "tools" / name for name in NAMES)]
+TOOLS = [
+    *(TOP / "tools/cueplayer_tools", TOP / "cueplayer-night"),
+    *(TOP / "tools" / name for name in NAMES),
+]
 SCRIPTS = ("edits", "lines", "pages", "wrong-programs")
-WRITERS = [TOP / "dev/generators", *(TOP / "dev" / name for name in SCRIPTS)]
+PACKAGES = ("generators", "wrong_bodies")
+WRITERS = [TOP / "dev" / name for name in (*PACKAGES, *SCRIPTS)]
 TESTS = [TOP / "tests", TOP / "tests/run"]
 
 

@@ -22,6 +22,6 @@ class Shell(unittest.TestCase):
     def test_shellcheck_has_no_warning(self):
         found = (path for folder in FOLDERS for path in sorted((TOP / folder).iterdir()))
         scripts = [path for path in found if is_script(path)]
-        self.assertGreater(len(scripts), 8)
+        self.assertGreater(len(scripts), 7)
         done = subprocess.run(["shellcheck", *scripts], capture_output=True, text=True, timeout=60)
         self.assertEqual((0, "", ""), (done.returncode, done.stdout, done.stderr))

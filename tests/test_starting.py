@@ -316,10 +316,12 @@ class Shipped(unittest.TestCase):
         self.assertRegex(released, rf"^{version} \(\d{{4}}-\d\d-\d\d\)\n")
         self.assertIn(f"version: {version}\n", (top / "dist/PROVENANCE").read_text())
 
-    def test_toolchain_is_that_of_the_program(self):
-        """README and CONTRIBUTING name the toolchain that the shipped program was built by."""
+    def test_logic_is_that_of_the_program(self):
+        """README and CONTRIBUTING name the logic of the toolchain that built the program."""
         top = Path(__file__).resolve().parent.parent
         lines = (top / "dist/PROVENANCE").read_text().splitlines()
         toolchain = dict(line.split(": ", 1) for line in lines)["toolchain"]
+        _, is_named, logic = toolchain.partition(" logic ")
+        self.assertTrue(is_named and logic, toolchain)
         for page in ("README.md", "CONTRIBUTING.md"):
-            self.assertIn(f"`{toolchain}`", (top / page).read_text(), page)
+            self.assertIn(f"`logic {logic}`", (top / page).read_text(), page)

@@ -7,7 +7,6 @@ a line is handed on now or never, and whole: one write.
 import argparse
 import fcntl
 import os
-import re
 import stat
 import struct
 import subprocess
@@ -16,6 +15,8 @@ import time
 import uuid
 from pathlib import Path
 
+from cueplayer_tools.keeper.folder import Folder
+from cueplayer_tools.keeper.locks import is_locked
 from cueplayer_tools.program import keeper
 from cueplayer_tools.words import Refused, printable
 
@@ -23,9 +24,6 @@ from cueplayer_tools.words import Refused, printable
 LATE = 1.0
 # The options of `live` that have no value.
 FLAGS = ("--any-route", "--end-with-input")
-# More than `end` and the three ticks behind it have.
-_LAST_LINES = 500
-_ENDED = re.compile(r"\d+ end[^\n]*(?:\n\d+ tick){3}\n\Z", re.ASCII | re.IGNORECASE)
 
 
 def _options_in(words: list[str]) -> dict[str, list[str]]:
@@ -44,6 +42,7 @@ class NightFolder:
 
     def __init__(self, path: str) -> None:
         self.path = Path(path)
+        self.folder = Folder(path)
         self.fifo = self.path / "in"
         self.replies = self.path / "replies"
         # Since when there was always something unread at a look, and since when no `live` was
@@ -52,8 +51,8 @@ class NightFolder:
         self.away_since: float | None = None
 
     def words(self) -> argparse.Namespace:
-        """What `live` plays: the show, where to and by which card, the CID and the base; Refused
-        where the folder does not say."""
+        """What `live` plays: the show, where to and by which card, the CID, the base and the
+        priority; Refused where the folder does not say."""
         try:
             show, *words = (self.path / "night").read_text("utf-8").split("\n")[:-1]
             options = _options_in(words)
@@ -61,8 +60,16 @@ class NightFolder:
             (base,) = map(int, options.get("--base", ["1"]))
             cards: list[str | None] = [*options.get("--interface", [])]
             (card,) = cards or [None]
-            to = options["--to"]
-            return argparse.Namespace(show=show, cid=cid, base=base, to=to, interface=card)
+            priorities: list[str | None] = [*options.get("--priority", [])]
+            (priority,) = priorities or [None]
+            return argparse.Namespace(
+                show=show,
+                cid=cid,
+                base=base,
+                to=options["--to"],
+                interface=card,
+                priority=priority,
+            )
         except OSError as fault:
             raise Refused(f"no night in {self.path}: {fault.strerror}") from fault
         except (KeyError, ValueError) as fault:
@@ -94,14 +101,7 @@ class NightFolder:
 
     def is_kept(self) -> bool:
         """Whether somebody keeps the night, and starts `live` again."""
-        try:
-            with (self.path / "lock").open("rb") as lock:
-                fcntl.flock(lock, fcntl.LOCK_SH | fcntl.LOCK_NB)
-        except BlockingIOError:
-            return True
-        except OSError:
-            pass
-        return False
+        return is_locked(self.folder, "lock")
 
     def start(self) -> None:
         """Goes on with the night, as `start` does; Refused with what that says."""
@@ -119,13 +119,7 @@ class NightFolder:
 
     def has_ended(self) -> bool:
         """Whether the record ends with its `end` and the three ticks behind it."""
-        try:
-            with (self.path / "record").open("rb") as record:
-                size = record.seek(0, os.SEEK_END)
-                record.seek(max(size - _LAST_LINES, 0))
-                return _ENDED.search(record.read().decode("latin-1")) is not None
-        except OSError:
-            return False
+        return self.folder.has_ended()
 
     def refusal(self) -> str:
         """Why no line is taken, and what to do."""

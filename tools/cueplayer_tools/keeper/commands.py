@@ -1,0 +1,108 @@
+"""Commands of a night: a line for its `live`, and the answer to it."""
+
+import os
+import time
+from collections.abc import Iterator
+
+from cueplayer_tools.keeper.folder import Folder, open_file, take_free_lock
+from cueplayer_tools.keeper.streams import Failure, complain, has_control, refusal, show
+
+_LONGEST = 180
+_MOVES = ("go", "back", "goto")
+_ENDS = ("end", "leave")
+# For how long a `live` may be away, an answer be missing, and another command have its turn, in
+# seconds; how often it is looked whether `live` is there, and whether it has answered: for so short
+# a wait a descriptor would cost more than it saves.
+_PATIENCE, _LOOK_EVERY, _READ_EVERY = 1.0, 0.02, 0.005
+_MOST = 65_536
+
+
+def _give_soon(folder: Folder, line: str) -> bool:
+    """Hands a line to a `live`, which may just be started again; whether one took it."""
+    until = time.monotonic() + _PATIENCE
+    while not folder.give(line):
+        if time.monotonic() > until:
+            return False
+        time.sleep(_LOOK_EVERY)
+    return True
+
+
+def _is_refusal(line: bytes) -> bool:
+    """Whether a line refuses a command."""
+    return line.startswith(b"line refused: ") or line[:1].isdigit() and b" refused " in line
+
+
+def _is_answer(word: str, line: bytes) -> bool:
+    """Whether a line of the replies belongs to the answer of this command. Others ask `where`
+    too."""
+    has_moment = line[:1].isdigit()
+    if word == "where":
+        return has_moment and b" where " in line or line.startswith(b"line refused: ")
+    if _is_refusal(line) or has_moment and line.endswith(b" ok"):
+        return True
+    if word in _MOVES:
+        return has_moment and b" cue " in line
+    return word in _ENDS and line.startswith(b"night: ") and b" the night has ended" in line
+
+
+def _lines_behind(folder: Folder, start: int, until: float) -> Iterator[bytes]:
+    """The lines that come into the replies behind so many bytes, until then."""
+    rest = b""
+    while time.monotonic() < until:
+        part = folder.read("replies", start, _MOST)
+        start += len(part)
+        *lines, rest = (rest + part).split(b"\n")
+        yield from lines
+        if not part:
+            time.sleep(_READ_EVERY)
+
+
+def _print_answer(folder: Folder, word: str, start: int) -> int:
+    """Prints the answer to a command from what comes, up to the cue of a move, or to the end of a
+    night; its status."""
+    status = None
+    for line in _lines_behind(folder, start, time.monotonic() + _PATIENCE):
+        if not _is_answer(word, line):
+            continue
+        show(line + b"\n")
+        if _is_refusal(line):
+            return 1
+        status = 0
+        if word not in _MOVES + _ENDS or not line.endswith(b" ok"):
+            return status
+    if status is None:
+        complain("no answer within a second: `where` says what was carried out")
+        return 1
+    return status
+
+
+def _await_turn(turn: int) -> None:
+    """Waits a second at most until other commands have had their turn."""
+    if not take_free_lock(turn):
+        # Few commands wait, and the others need not read how.
+        from cueplayer_tools.keeper.locks import take_lock
+
+        take_lock(turn, _PATIENCE)
+
+
+def command_night(folder: Folder, line: str) -> int:
+    """Hands a command on, and prints its answer; its status. Commands of shells take turns, so
+    that each prints its own."""
+    if len(os.fsencode(line)) > _LONGEST or has_control(line):
+        raise refusal(f"a line has at most {_LONGEST} bytes")
+    try:
+        turn = open_file(folder.file("night"), os.O_RDONLY)
+    except OSError:
+        turn = -1
+    if turn < 0 or not folder.is_fifo() or not folder.is_file("replies"):
+        raise Failure(f"no night in {folder.path}")
+    try:
+        _await_turn(turn)
+        start = folder.size("replies")
+        if _give_soon(folder, line):
+            return _print_answer(folder, line.partition(" ")[0], start)
+    finally:
+        os.close(turn)
+    told = f"no live plays the night in {folder.path}: nothing was sent"
+    complain(f"{told}; `start` goes on with it")
+    return 1

@@ -1,0 +1,98 @@
+"""Makes the folder of a night, with the words of `live`."""
+
+import os
+import time
+
+from cueplayer_tools.keeper.folder import Folder, whole_path
+from cueplayer_tools.keeper.locks import await_lock, is_locked
+from cueplayer_tools.keeper.players import find_live
+from cueplayer_tools.keeper.streams import Failure, has_control, reason, refusal
+
+# For how long a keeper may take to go once its night has ended, in seconds.
+_PATIENCE = 1.0
+
+
+def _check(word: str) -> None:
+    """Refuses a word that is none of a night in a folder."""
+    if word in ("--record", "--resume", "--spare") or word.startswith("--record="):
+        raise refusal(f"leave out {word}: the folder has the record")
+    if word.partition("=")[0] in ("--follow", "--patience"):
+        raise refusal(f"leave out {word}: a night in a folder goes on in its own record")
+    if word in ("-h", "--help"):
+        raise refusal(f"no {word} here")
+    if has_control(word):
+        raise refusal("a word has a control character")
+
+
+def live_words(given: list[str]) -> list[str]:
+    """The words of `live` from a command line, with the show's whole path: they are read from
+    other folders too."""
+    if not given or not given[0] or given[0].startswith("-"):
+        raise refusal("name the SHOW first")
+    words = [whole_path(given[0]), *given[1:]]
+    for word in words:
+        _check(word)
+    return words
+
+
+def _put_aside(folder: Folder) -> None:
+    """The record and the replies of a night that has ended are kept under names of their own."""
+    written = time.localtime(os.stat(folder.file("record")).st_mtime)
+    when = time.strftime("%Y-%m-%dT%H%M%S", written)
+    for name in ("record", "replies"):
+        if os.path.exists(folder.file(name)):
+            try:
+                os.rename(folder.file(name), folder.file(f"{name}-{when}"))
+            except OSError as fault:
+                told = f"cannot put {folder.file(name)} aside: {reason(fault)}"
+                raise Failure(told) from fault
+
+
+def _write(path: str, content: bytes) -> None:
+    with open(path, "wb") as file:
+        file.write(content)
+
+
+def make_folder(folder: Folder, words: list[str]) -> None:
+    """Makes what is in a folder, and gives it these words. A night that has begun keeps its
+    own."""
+    if not os.path.isdir(folder.path):
+        try:
+            os.mkdir(folder.path)
+        except OSError as fault:
+            raise Failure(f"cannot make the folder {folder.path}: {reason(fault)}") from fault
+    has_ended = folder.has_ended()
+    if has_ended:
+        # Who has kept a night that ended is about to go.
+        await_lock(folder, "lock", _PATIENCE)
+    if is_locked(folder, "lock") or find_live(folder) is not None:
+        raise Failure(f"the night in {folder.path} is played already")
+    if has_ended:
+        _put_aside(folder)
+    elif folder.has_record() and folder.words() != words:
+        told = f"the night in {folder.path} has begun with other words"
+        raise Failure(f"{told}: `start` alone goes on with it")
+    try:
+        _write(folder.file("night.new"), b"".join(os.fsencode(word) + b"\n" for word in words))
+        os.rename(folder.file("night.new"), folder.file("night"))
+    except OSError as fault:
+        raise Failure(f"cannot write {folder.file('night')}: {reason(fault)}") from fault
+    make_files(folder)
+    # What was said of words that were refused is not of this night.
+    if not folder.has_record():
+        _write(folder.file("replies"), b"")
+
+
+def make_files(folder: Folder) -> None:
+    """Makes the files that a night is played by."""
+    if not folder.is_fifo():
+        try:
+            os.mkfifo(folder.file("in"))
+        except OSError as fault:
+            raise Failure(f"cannot make the FIFO {folder.file('in')}: {reason(fault)}") from fault
+    try:
+        for name in ("replies", "lock"):
+            with open(folder.file(name), "ab"):
+                pass
+    except OSError as fault:
+        raise Failure(f"cannot write in {folder.path}: {reason(fault)}") from fault

@@ -1,0 +1,56 @@
+"""Which processes play a night, stand by, and keep it, by the files of its folder."""
+
+import os
+import time
+
+from cueplayer_tools.keeper.folder import Folder
+from cueplayer_tools.keeper.locks import is_locked
+
+# For how long the number of a process that has a lock may still be missing, and how often it is
+# looked for, in seconds.
+_PATIENCE, _LOOK_EVERY = 0.2, 0.005
+
+
+def find_number(folder: Folder, name: str) -> int | None:
+    """The number of a process that a file has."""
+    line = folder.read(name, 0, 64).partition(b"\n")[0].strip()
+    return int(line) if line.isdigit() and not line.startswith(b"0") else None
+
+
+def is_live(folder: Folder, number: int | None) -> bool:
+    """Whether this process plays the night, or stands by: its standard input is the FIFO."""
+    if number is None:
+        return False
+    try:
+        there, fifo = os.stat(f"/proc/{number}/fd/0"), os.stat(folder.file("in"))
+    except OSError:
+        return False
+    return os.path.samestat(there, fifo)
+
+
+def find_live(folder: Folder) -> int | None:
+    """The process that plays the night. The spare plays it where no other does."""
+    found, standby = find_number(folder, "pid"), find_number(folder, "spare")
+    if is_live(folder, found):
+        return found
+    for name in os.listdir("/proc"):
+        if name.isdigit() and int(name) != standby and is_live(folder, int(name)):
+            return int(name)
+    return standby if is_live(folder, standby) else None
+
+
+def find_spare(folder: Folder) -> int | None:
+    """The process that stands by."""
+    found = find_number(folder, "spare")
+    return found if is_live(folder, found) and found != find_live(folder) else None
+
+
+def find_keeper(folder: Folder) -> int | None:
+    """The process that keeps the night going, once it has written its number."""
+    until = time.monotonic() + _PATIENCE
+    while is_locked(folder, "lock"):
+        found = find_number(folder, "lock")
+        if found is not None or time.monotonic() > until:
+            return found
+        time.sleep(_LOOK_EVERY)
+    return None
