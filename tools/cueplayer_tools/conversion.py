@@ -5,15 +5,20 @@ The text that is written is a show file in one form, whatever the form of the ex
 from collections.abc import Iterable
 from dataclasses import dataclass
 
-from cueplayer_tools.conversion_report import CHANGED, LEFT_OUT, LOST, Report, line_text
-from cueplayer_tools.curves import ranges
-from cueplayer_tools.export_forms import LEVEL_WORDS
-from cueplayer_tools.export_reader import Cue, Export, Part, Rate, Reader, Record, page_of
+from cueplayer_tools.conversion_report import (
+    CHANGED, DOUBT, LEFT_OUT, LOST, NOT_PLAYED, Report, line_text,
+)  # fmt: skip
+from cueplayer_tools.conversion_times import Times, times_of
+from cueplayer_tools.conversion_tracking import track
+from cueplayer_tools.conversion_writer import Writer
+from cueplayer_tools.export_bounds import lines_in, text_of
+from cueplayer_tools.export_makers import tell_makers
+from cueplayer_tools.export_reader import Reader, page_of
+from cueplayer_tools.export_records import HIGHEST_CHANNEL, Choices, Cue, Export, Record
 from cueplayer_tools.export_styles import Style, style_of
-from cueplayer_tools.export_text import Line, decode, lines_behind, lines_of
-from cueplayer_tools.words import Refused, cue_word, time_word
+from cueplayer_tools.export_text import Line
+from cueplayer_tools.words import Refused, cue_word
 
-MOST_CHANNELS = 4096
 MOST_SUBS = 100
 MOST_GROUPS = 500
 MOST_CUES = 2_000
@@ -33,6 +38,11 @@ class Conversion:
     show: bytes
     # What the show has: cues, submasters, groups and dimmers.
     counts: dict[str, int]
+    # The cues, and the channels of the export by those that they became.
+    cues: list[Cue]
+    channels: dict[int, int]
+    # What speaks for tracking and against it, where that is in doubt.
+    tracking: str
 
 
 def _pages(lines: list[Line], cue_list: int | None) -> dict[str, int]:
@@ -45,12 +55,13 @@ def _pages(lines: list[Line], cue_list: int | None) -> dict[str, int]:
     return pages if cue_list is None else pages | {"CUE": cue_list}
 
 
-def read_export(lines: list[Line], report: Report, cue_list: int | None) -> Export:
+def read_export(lines: list[Line], report: Report, choices: Choices) -> Export:
     """The records of an export, as they are numbered there."""
-    pages = _pages(lines, cue_list)
-    reader = Reader(report, pages, MOST_CHANNELS)
+    pages = _pages(lines, choices.cue_list)
+    reader = Reader(report, pages, choices)
     for line in lines:
         reader.take(line)
+    tell_makers(reader.export, choices, report)
     for word, page in pages.items():
         if page != 1:
             numbers = [line.number for line in lines if line.first == word]
@@ -73,19 +84,21 @@ def _masters(
     used, odd = {}, []
     for key, record in records.items():
         if not record.levels:
-            report.add(LEFT_OUT, record.number, f"{kind}s without channels")
+            is_bare = not record.has_lines
+            text = f"{kind}s without channels" if is_bare else f"{record.name} has no channel"
+            report.add(LEFT_OUT if is_bare else DOUBT, record.number, text)
         elif key % 1000 or not 1 <= key // 1000 <= highest:
             odd.append(key)
         else:
             used[key // 1000] = record
     found = free_numbers(odd, used, highest)
     for key in odd:
-        name = f"{kind} {cue_word(key)}"
+        record = records[key]
         if key in found:
-            used[found[key]] = records[key]
-            report.add(CHANGED, records[key].number, f"{name} to {kind} {found[key]}")
+            used[found[key]] = record
+            report.add(CHANGED, record.number, f"{record.name} to {kind} {found[key]}")
         else:
-            report.add(LOST, records[key].number, f"{name}: no number is free")
+            report.add(LOST, record.number, f"{record.name}: no number is free")
     return sorted(used.items())
 
 
@@ -96,135 +109,50 @@ def _new_channels(export: Export, report: Report) -> dict[int, int]:
     used.update(*(record.levels for record in export.records()))
     wanted = [each for each in export.high if each in used]
     wanted = [each for each in wanted if each in patched or not export.has_patch]
-    found = free_numbers(wanted, (n for n in used if n <= MOST_CHANNELS), MOST_CHANNELS)
+    found = free_numbers(wanted, (n for n in used if n <= HIGHEST_CHANNEL), HIGHEST_CHANNEL)
     for channel, numbers in export.high.items():
         if channel in found:
             report.add(CHANGED, numbers, f"channel {channel} to channel {found[channel]}")
         elif channel in wanted:
             report.add(LOST, numbers, f"channel {channel}: no number is free")
         else:
-            report.add(LEFT_OUT, numbers, f"channel {channel}, to which no dimmer is patched")
+            text = f"channel {channel} is left out: no dimmer is patched to it"
+            report.add(DOUBT, numbers, text)
     return found
 
 
-def _renumber(export: Export, report: Report) -> None:
+def _renumber(export: Export, report: Report) -> dict[int, int]:
     """Gives channels above the range numbers that fit, or leaves them out."""
     if not export.high:
-        return
+        return {}
     new = _new_channels(export, report)
     for record in export.records():
         record.levels = {
             new.get(channel, channel): byte
             for channel, byte in record.levels.items()
-            if channel <= MOST_CHANNELS or channel in new
+            if channel <= HIGHEST_CHANNEL or channel in new
         }
     for dimmer, each in list(export.patch.items()):
         if each.channel in new:
             each.channel = new[each.channel]
-        elif each.channel > MOST_CHANNELS:
+        elif each.channel > HIGHEST_CHANNEL:
             del export.patch[dimmer]
+    return {number: channel for channel, number in new.items()}
 
 
-def _rate_words(up: Rate | None, down: Rate | None) -> str:
-    """The times of a part, as lines say them."""
-    rates = [f"{name} {_rate_word(rate)}" for name, rate in (("UP", up), ("DOWN", down)) if rate]
-    return ", ".join(rates) or "no times"
-
-
-def _rate_word(rate: Rate) -> str:
-    return time_word(rate.time) + (f" {time_word(rate.delay)}" if rate.delay else "")
-
-
-Times = tuple[Rate | None, Rate | None]
-
-
-def _rates(up: Rate | None, down: Rate | None) -> tuple[Rate, Rate]:
-    """How channels rise and fall by these lines."""
-    return up or down or Rate(0), down or up or Rate(0)
-
-
-def _own(part: Part, general: Part) -> Times:
-    return part.up or general.up, part.down or general.down
-
-
-def times_of(cue: Cue, report: Report) -> Times:
-    """The times of a cue: those of its parts where they agree, else those of the last lines."""
-    parts = cue.parts
-    last: Times = (None, None)
-    for part in parts:
-        last = part.up or last[0], part.down or last[1]
-    if len(parts) == 1:
-        return last
-    lit = [part for part in parts if part.channels] or parts
-    own = [_own(part, parts[0]) for part in lit]
-    if all(_rates(*each) == _rates(*own[0]) for each in own):
-        if _rates(*own[0]) != _rates(*last):
-            told = f"cue {cue_word(cue.key)}: the times of parts without channels are left out"
-            report.add(CHANGED, cue.number, told)
-        return own[0]
-    for part, each in zip(lit, own):
-        if _rates(*each) != _rates(*last):
-            _lose_part(cue, part, each, last, report)
-    return last
-
-
-def _lose_part(cue: Cue, part: Part, own: Times, last: Times, report: Report) -> None:
-    name = f"part {part.name}" if part.name else "its first lines"
-    channels = f"channel{'s' if len(part.channels) > 1 else ''} {ranges(sorted(part.channels))}"
-    text = (
-        f"cue {cue_word(cue.key)}: {_rate_words(*own)} of {name}"
-        f" ({channels if part.channels else 'no channel'}): all channels take {_rate_words(*last)}"
-    )
-    report.add(LOST, part.numbers or cue.number, text)
-
-
-class Writer:
-    """Writes a show of the records of an export."""
-
-    def __init__(self, width: int) -> None:
-        self.width = width
-        self.lines: list[str] = []
-
-    def wrap(self, front: str, items: Iterable[str]) -> None:
-        """Lines that begin with the same words, none longer than the width, which may be none."""
-        line = front
-        for item in items:
-            if self.width and len(line) + len(item) >= self.width and line != front:
-                self.lines.append(line)
-                line = front
-            line = f"{line} {item}"
-        self.lines.append(line)
-
-    def levels(self, levels: dict[int, int]) -> None:
-        items = [f"{channel}@{LEVEL_WORDS[byte]}" for channel, byte in sorted(levels.items())]
-        if items:
-            self.wrap("CHAN", items)
-
-    def head(self, word: str, number: str, record: Record) -> None:
-        """The line that opens a record, and its label: as a comment where TEXT would cut it."""
-        label = record.label
-        self.lines += ["", f"{word} {number} ! {label}" if "!" in label else f"{word} {number}"]
-        if label and "!" not in label:
-            self.lines.append(f"TEXT {label}")
-
-    def patch(self, export: Export) -> None:
-        self.lines.append("")
-        items = (
-            f"{each.channel}<{dimmer}@{LEVEL_WORDS[each.level]}"
-            for dimmer, each in sorted(export.patch.items())
-        )
-        self.wrap("PATCH 1", items)
-
-    def cue(self, cue: Cue, times: Times, link: int | None) -> None:
-        self.head("CUE", cue_word(cue.key), cue)
-        for name, rate in zip(("UP", "DOWN"), times):
-            if rate is not None:
-                self.lines.append(f"{name} {_rate_word(rate)}")
-        if cue.follow is not None:
-            self.lines.append(f"FOLLOWON {time_word(cue.follow)}")
-        if link is not None:
-            self.lines.append(f"LINK {cue_word(link)}")
-        self.levels(cue.levels)
+def _note_bare(bare: list[Cue], is_tracking: bool, report: Report) -> None:
+    """Tells of the cues that list no channel: by lines that were not read, or as blackouts do."""
+    for cue in bare:
+        if cue.unread:
+            comes = "changes nothing" if is_tracking else "comes out dark"
+            text = f"{cue.name} {comes}, though lines stand below it"
+            report.add(LOST, [cue.number, *cue.unread], text)
+    rest = [cue for cue in bare if not cue.unread]
+    if rest:
+        words = ", ".join(cue_word(cue.key) for cue in rest)
+        text = f"cues {words} list" if len(rest) > 1 else f"cue {words} lists"
+        means = "it changes nothing" if is_tracking else "right for a blackout"
+        report.add(DOUBT, [cue.number for cue in rest], f"{text} no channel: {means}")
 
 
 def _links(cues: list[Cue], report: Report) -> dict[int, int]:
@@ -239,18 +167,11 @@ def _links(cues: list[Cue], report: Report) -> dict[int, int]:
             report.add(LEFT_OUT, number, "LINK to the next cue")
             continue
         goes = f"GO goes to {cue_word(following)}" if following else "GO goes nowhere"
-        report.add(LOST, number, f"LINK {cue_word(to)} of cue {cue_word(cue.key)}: {goes}")
+        link = f"LINK {cue_word(to)}"
+        report.add(NOT_PLAYED, number, f"{link} of {cue.name}: {goes}, and the label says so")
+        cue.notes.append(f"[{link}]")
         kept[cue.key] = to
     return kept
-
-
-def _track(cues: list[Cue], report: Report) -> None:
-    """Each cue keeps the levels of the one before that it does not list."""
-    before: dict[int, int] = {}
-    for cue in cues:
-        before = before | cue.levels
-        cue.levels = before
-    report.add(CHANGED, (), "each cue keeps what it does not list (--tracking)")
 
 
 @dataclass
@@ -262,6 +183,8 @@ class Parts:
     links: dict[int, int]
     subs: list[tuple[int, Record]]
     groups: list[tuple[int, Record]]
+    # Whether the export has its last line: one that may be cut makes a show without it.
+    is_ended: bool
 
 
 def _file_bytes(head: list[str], export: Export, parts: Parts, width: int) -> bytes:
@@ -275,21 +198,19 @@ def _file_bytes(head: list[str], export: Export, parts: Parts, width: int) -> by
             writer.levels(record.levels)
     for cue in parts.cues:
         writer.cue(cue, parts.times[cue.key], parts.links.get(cue.key))
-    writer.lines += ["", "ENDDATA", ""]
+    writer.lines += ["", "ENDDATA"] * parts.is_ended + [""]
     return "\n".join(writer.lines).encode("latin-1")
 
 
-def _parts(export: Export, report: Report, is_tracking: bool) -> Parts:
-    _renumber(export, report)
-    cues = [export.cues[key] for key in sorted(export.cues)]
-    if is_tracking:
-        _track(cues, report)
+def _parts(export: Export, report: Report, cues: list[Cue], is_ended: bool) -> Parts:
+    links = _links(cues, report)
     return Parts(
         cues,
         {cue.key: times_of(cue, report) for cue in cues},
-        _links(cues, report),
+        links,
         _masters(export.subs, "submaster", MOST_SUBS, report),
         _masters(export.groups, "group", MOST_GROUPS, report),
+        is_ended,
     )
 
 
@@ -306,29 +227,30 @@ def _show_of(head: list[str], export: Export, parts: Parts) -> bytes:
     raise Refused(f"the show has {len(show):,} bytes, and may have {LONGEST_SHOW:,}")
 
 
-def _lines(text: str, report: Report) -> list[Line]:
-    lines = list(lines_of(text))
-    if lines and lines[-1].first == "ENDDATA":
-        behind = lines_behind(text, lines[-1].number)
-        if behind:
-            report.add(LEFT_OUT, behind, "lines after ENDDATA")
-    return lines
+def _head(style: Style, lines: list[Line], report: Report) -> list[str]:
+    """The first lines of the show: where it is from, and whether light may be missing."""
+    lost = ", and what may have held light was lost: see its report" if report.has(LOST) else ""
+    origin = (line.words for line in lines if line.first in ("MANUFACTURER", "CONSOLE"))
+    return [
+        f"! From an export of {style.name}, by convert{lost}.",
+        *(line_text(" ".join(words)) for words in origin),
+    ]
 
 
-def convert(content: bytes, cue_list: int | None = None, is_tracking: bool = False) -> Conversion:
+def convert(content: bytes, choices: Choices = Choices()) -> Conversion:
     """The show of an export; Refused where there is none that the program would take."""
     report = Report()
-    text, changes = decode(content)
-    for change in changes:
-        report.add(CHANGED, (), change)
-    lines = _lines(text, report)
+    text = text_of(content, report)
+    lines, is_ended = lines_in(text, report)
     style, told_by = style_of(lines)
-    export = read_export(lines, report, cue_list)
-    parts = _parts(export, report, is_tracking)
-    head = [f"! From an export of {style.name}, by convert."]
-    origin = (line.words for line in lines if line.first in ("MANUFACTURER", "CONSOLE"))
-    head += [line_text(" ".join(words)) for words in origin]
-    show = _show_of(head, export, parts)
+    export = read_export(lines, report, choices)
+    channels = _renumber(export, report)
+    cues = [export.cues[key] for key in sorted(export.cues)]
+    bare = [cue for cue in cues if not cue.levels]
+    is_tracking, doubt = track(cues, choices.is_tracking, report)
+    _note_bare(bare, is_tracking, report)
+    parts = _parts(export, report, cues, is_ended)
+    show = _show_of(_head(style, lines, report), export, parts)
     counts = {
         "cue": len(parts.cues),
         "submaster": len(parts.subs),
@@ -336,4 +258,6 @@ def convert(content: bytes, cue_list: int | None = None, is_tracking: bool = Fal
         "patched dimmer": len(export.patch),
     }
     count = text.count("\n") + (text[-1:] not in ("", "\n"))
-    return Conversion(style, told_by, count, report, show, counts)
+    return Conversion(
+        style, told_by, count, report, show, counts, cues, channels, doubt
+    )

@@ -9,7 +9,7 @@ from typing import Any
 from cueplayer_tools.program import run
 from cueplayer_tools.words import Refused, thousandths_of
 
-LONGEST_NAME = 80
+LONGEST_NAME = 200
 
 
 @dataclass(frozen=True)
@@ -54,6 +54,8 @@ class Show:
     subs: dict[int, Record] = field(default_factory=dict)
     groups: dict[int, Record] = field(default_factory=dict)
     patch: dict[int, int] = field(default_factory=dict)
+    # The level byte of a dimmer whose channel is at full.
+    full: dict[int, int] = field(default_factory=dict)
 
     @cached_property
     def order(self) -> list[int]:
@@ -121,6 +123,7 @@ def show_in(text: str) -> Show:
         _records(given["submasters"]),
         _records(given["groups"]),
         {each["dimmer"]: each["channel"] for each in given["patch"]},
+        {each["dimmer"]: each["level"] for each in given["patch"]},
     )
 
 

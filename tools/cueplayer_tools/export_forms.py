@@ -4,6 +4,7 @@ Each form answers None where a word has no value of it."""
 
 import re
 from dataclasses import dataclass
+from typing import NamedTuple
 
 LONGEST_TIME = 5_999_990
 HIGHEST_CUE = 9_999_999
@@ -13,6 +14,8 @@ _HEX = re.compile(r"[Hh][0-9A-Fa-f]{1,2}")
 _PERCENT = re.compile(r"([0-9]+)(?:\.([0-9]*))?%?")
 _CLOCK = re.compile(r"(?:([0-9]+):)?([0-9]+):([0-9]+)(?:\.([0-9]*))?")
 # What the profile takes as it stands.
+_PLAIN_NUMBER = re.compile(r"[0-9]{1,9}")
+_PLAIN_CUE = re.compile(r"[0-9]{1,9}(\.[0-9]{1,3})?|\.[0-9]{1,3}")
 _PLAIN_TIME = re.compile(
     r"[0-9]{1,9}(\.[0-9]{1,2})?|\.[0-9]{1,2}|[0-9]{1,9}:[0-5]?[0-9](\.[0-9]{1,2})?"
 )
@@ -25,6 +28,15 @@ class Time:
     value: int
     is_rounded: bool = False
     is_cut: bool = False
+
+
+class Level(NamedTuple):
+    """A level byte, whether its word is spelled as no show file spells it, and whether the byte is
+    no more than near to it."""
+
+    value: int
+    is_free: bool = False
+    is_rounded: bool = False
 
 
 def percent_byte(percent: int) -> int:
@@ -61,18 +73,18 @@ def cue_number(word: str) -> int | None:
     return value if value and value <= HIGHEST_CUE else None
 
 
-def level(word: str) -> tuple[int, bool] | None:
-    """A level byte, and whether the word is spelled as no show file spells it."""
+def level(word: str) -> Level | None:
+    """A level byte, and how its word differs from those of a show file."""
     known = PLAIN_LEVELS.get(word)
     if known is not None:
-        return known, False
+        return Level(known)
     upper = word.upper()
     if upper in ("FL", "FF"):
-        return 255, False
+        return Level(255)
     if _HEX.fullmatch(word):
-        return int(word[1:], 16), False
+        return Level(int(word[1:], 16))
     if upper == "FULL":
-        return 255, True
+        return Level(255, True)
     found = _PERCENT.fullmatch(word)
     if found is None or len(word) > 18:
         return None
@@ -81,7 +93,8 @@ def level(word: str) -> tuple[int, bool] | None:
     share = int(found[1] + parts)
     if share > 100 * scale:
         return None
-    return (2 * share * 255 + 100 * scale) // (200 * scale), bool(parts or word.endswith("%"))
+    byte = (2 * share * 255 + 100 * scale) // (200 * scale)
+    return Level(byte, not is_plain_number(word), bool(parts.strip("0")))
 
 
 def _hundredths(parts: str | None) -> tuple[int, bool]:
@@ -110,6 +123,16 @@ def time(word: str) -> Time | None:
     return Time(min(value, LONGEST_TIME), is_rounded, value > LONGEST_TIME)
 
 
+def is_plain_number(word: str) -> bool:
+    """Whether a number is spelled as a show file spells it."""
+    return bool(_PLAIN_NUMBER.fullmatch(word))
+
+
+def is_plain_cue_number(word: str) -> bool:
+    """The same of a cue number."""
+    return bool(_PLAIN_CUE.fullmatch(word))
+
+
 def is_plain_time(word: str) -> bool:
-    """Whether a time is spelled as a show file spells it."""
+    """The same of a time."""
     return bool(_PLAIN_TIME.fullmatch(word))

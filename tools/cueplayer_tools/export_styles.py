@@ -15,33 +15,21 @@ class Style:
 
     name: str
     words: frozenset[str]
-    hint: str
+    hint: str = ""
 
 
-_TRACKING = (
-    "a cue is a whole look here: if this export lists only changes, what a cue leaves as it was"
-    " goes dark; then convert it with --tracking"
-)
 STYLES = (
-    Style(
-        "the Eos family",
-        frozenset("EOS TI GIO ION XE ELEMENT APEX ETCNOMAD NOMAD".split()),
-        _TRACKING,
-    ),
+    Style("the Eos family", frozenset("EOS TI GIO ION XE ELEMENT APEX ETCNOMAD NOMAD".split())),
     Style(
         "Express and Obsession",
         frozenset("EXPRESS EXPRESSION INSIGHT IMPRESSION MICROVISION OBSESSION".split()),
         "effects, macros and profiles are records of the maker, and are left out",
     ),
-    Style(
-        "Strand",
-        frozenset("STRAND GENIUS GENIUSPLUS PALETTE LIGHTPALETTE MANTRIX".split()),
-        _TRACKING,
-    ),
-    Style("MagicQ", frozenset("MAGICQ CHAMSYS".split()), _TRACKING),
-    Style("Hog", frozenset("HOG WHOLEHOG HOGPC".split()), _TRACKING),
+    Style("Strand", frozenset("STRAND GENIUS GENIUSPLUS PALETTE LIGHTPALETTE MANTRIX".split())),
+    Style("MagicQ", frozenset("MAGICQ CHAMSYS".split())),
+    Style("Hog", frozenset("HOG WHOLEHOG HOGPC".split())),
 )
-UNKNOWN = Style("a console that it does not name", frozenset(), _TRACKING)
+UNKNOWN = Style("a console that it does not name", frozenset())
 _WORD = re.compile(r"[A-Z]+")
 
 

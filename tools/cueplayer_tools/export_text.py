@@ -6,6 +6,8 @@ import re
 from collections.abc import Iterator
 from dataclasses import dataclass, field
 
+from cueplayer_tools.export_words import KEYWORDS
+
 SEPARATORS = " \t\r\x1a,;/<=>@"
 # No label begins or ends with one of these.
 EDGES = SEPARATORS + '"'
@@ -13,6 +15,8 @@ EDGES = SEPARATORS + '"'
 _LONG = ("CHAN", "PATCH")
 _BLANKS = str.maketrans(SEPARATORS, " " * len(SEPARATORS))
 _LONE_CR = re.compile(r"\r(?!\n)")
+# A CR inside a line, with a keyword behind it: where a line ended once.
+_LINE_END = re.compile(rf"\r+(?=[ \t]*(?:{'|'.join(KEYWORDS)})\b)", re.IGNORECASE)
 _DIGITS = re.compile(r"[0-9]+")
 
 
@@ -26,6 +30,8 @@ class Line:
     comment: str
     words: list[str]
     more: list[tuple[int, str]] = field(default_factory=list)
+    # Whether a CR alone stands before it, in place of a line end.
+    is_behind_cr: bool = False
 
     @property
     def first(self) -> str:
@@ -60,11 +66,20 @@ def words_of(said: str) -> list[str]:
     return [word for word in said.translate(_BLANKS).split(" ") if word]
 
 
-def lines_of(text: str) -> Iterator[Line]:
-    """The lines with words, up to the end of the data and that line too; a CHAN or PATCH line has
-    those that it goes on in."""
-    held: Line | None = None
+def _pieces(text: str) -> Iterator[tuple[int, bool, str]]:
+    """The lines with their numbers, and those that a CR alone parts, each by itself."""
     for number, line in enumerate(text.split("\n"), 1):
+        if "\r" not in line or "\r" not in line.rstrip("\r"):
+            yield number, False, line
+            continue
+        for place, piece in enumerate(_LINE_END.split(line)):
+            yield number, place > 0, piece
+
+
+def lines_of(text: str) -> Iterator[Line]:
+    """The lines with words; a CHAN or PATCH line has those that it goes on in."""
+    held: Line | None = None
+    for number, is_behind_cr, line in _pieces(text):
         said, _, comment = line.partition("!")
         words = words_of(said)
         if not words:
@@ -76,18 +91,17 @@ def lines_of(text: str) -> Iterator[Line]:
                 continue
             yield held
             held = None
-        found = Line(number, said, comment, words)
+        found = Line(number, said, comment, words, is_behind_cr=is_behind_cr)
         if found.first in _LONG:
             held = found
-            continue
-        yield found
-        if found.first == "ENDDATA":
-            return
+        else:
+            yield found
     if held is not None:
         yield held
 
 
-def lines_behind(text: str, number: int) -> list[int]:
-    """The numbers of the lines with words behind this one."""
-    rest = enumerate(text.split("\n")[number:], number + 1)
-    return [at for at, line in rest if words_of(line.partition("!")[0])]
+def comments_of(text: str) -> Iterator[tuple[int, str]]:
+    """The comments with the numbers of their lines."""
+    for number, line in enumerate(text.split("\n"), 1):
+        if "!" in line:
+            yield number, line.partition("!")[2]

@@ -10,6 +10,7 @@ from typing import Any
 from cueplayer_tools import export_forms as forms
 from cueplayer_tools.conversion_report import CHANGED, DOUBT, LOST, Report, line_text
 from cueplayer_tools.export_text import SEPARATORS, Line
+from cueplayer_tools.words import printable
 
 HIGHEST_DIMMER = 8192
 _BLANKS = re.compile(r"[ \t]+")
@@ -51,28 +52,41 @@ class Values:
 
     def __init__(self, report: Report) -> None:
         self.report = report
+        # What the lines belong to, as it stands before what is told of them.
+        self.owner = ""
+        self.number = 0
 
     def _level(self, word: str) -> int | None:
         found = forms.level(word)
         if found is None:
             return None
-        if found[1]:
-            self.report.respell(word, forms.LEVEL_WORDS[found[0]])
-        return found[0]
+        anew = forms.LEVEL_WORDS[found.value]
+        if found.is_rounded:
+            self.report.add(CHANGED, self.number, f"level {printable(word)} to {anew}")
+        elif found.is_free:
+            self.report.respell(self.number, word, anew)
+        return found.value
+
+    def _whole(self, word: str) -> int | None:
+        found = forms.whole(word)
+        if found is not None and not forms.is_plain_number(word):
+            self.report.respell(self.number, word, str(found))
+        return found
 
     def _pair(self, words: list[str]) -> Pair | None:
-        channel = forms.whole(words[0])
+        channel = self._whole(words[0])
         byte = self._level(words[1])
         return None if channel is None or byte is None else (channel, byte)
 
     def _triple(self, words: list[str]) -> Triple | None:
-        channel, dimmer, byte = forms.whole(words[0]), forms.whole(words[1]), self._level(words[2])
+        channel, dimmer, byte = self._whole(words[0]), self._whole(words[1]), self._level(words[2])
         if channel is None or dimmer is None or byte is None:
             return None
         return channel, dimmer, byte
 
     def _lose(self, line: Line, number: int, what: str) -> None:
-        self.report.add(LOST, number, f"{line.first} {line_text(what)} cannot be read")
+        text = f"{self.owner}{line.first} {line_text(what)} cannot be read"
+        self.report.add(LOST, number, text)
         scale = _other_scale(what)
         if scale:
             text = f"a level of another scale: if all are {scale}, they were misread as percent"
@@ -81,6 +95,9 @@ class Values:
     def pairs(self, line: Line) -> list[Pair]:
         """The channels of a CHAN line with their levels."""
         words = line.words
+        if len(words) == 1:
+            self.report.add(LOST, line.number, f"{self.owner}CHAN without a channel")
+            return []
         if len(words) % 2:
             plain = _plain_pairs(words)
             if plain is not None:
@@ -90,6 +107,9 @@ class Values:
 
     def triples(self, line: Line) -> list[Triple]:
         """The patch of a PATCH line: channel, dimmer and level, behind its page."""
+        if len(line.words) < 3:
+            self.report.add(LOST, line.number, f"{line_text(line.said)} without a dimmer")
+            return []
         found = _plain_triples(line.words) if len(line.words) % 3 == 2 else None
         if found is not None:
             self._note_marks(line, 2 * len(found), _PAGE_AND_MARK.match(line.said) is not None)
@@ -123,6 +143,7 @@ class Values:
             if size == 3 and len(each) == 2 and "<" in chunk and "@" not in chunk:
                 self.report.add(CHANGED, number, f"{line_text(chunk)} has no level: full")
                 each.append("FL")
+            self.number = number
             value = read(each) if len(each) == size else None
             if value is None:
                 self._lose(line, number, chunk)
@@ -139,6 +160,7 @@ class Values:
             return []
         found = []
         for at in range(0, len(words), size):
+            self.number = chunks[at][0]
             value = read(words[at : at + size])
             if value is None:
                 self._lose(line, chunks[at][0], " ".join(words[at : at + size]))
@@ -158,9 +180,9 @@ def _plain_pairs(words: list[str]) -> list[Pair] | None:
     found = []
     for at in range(1, len(words), 2):
         channel, byte = words[at], forms.level(words[at + 1])
-        if not _is_number(channel) or byte is None or byte[1]:
+        if not _is_number(channel) or byte is None or byte.is_free:
             return None
-        found.append((int(channel), byte[0]))
+        found.append((int(channel), byte.value))
     return found
 
 
@@ -169,9 +191,9 @@ def _plain_triples(words: list[str]) -> list[Triple] | None:
     found = []
     for at in range(2, len(words), 3):
         channel, dimmer, byte = words[at], words[at + 1], forms.level(words[at + 2])
-        if not (_is_number(channel) and _is_number(dimmer)) or byte is None or byte[1]:
+        if not (_is_number(channel) and _is_number(dimmer)) or byte is None or byte.is_free:
             return None
-        found.append((int(channel), int(dimmer), byte[0]))
+        found.append((int(channel), int(dimmer), byte.value))
     return found
 
 

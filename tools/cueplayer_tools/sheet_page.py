@@ -22,7 +22,7 @@ th{text-align:left;font-size:8.5pt;border-bottom:1.5pt solid #000;padding:1mm 2m
 td{vertical-align:baseline;border-bottom:.5pt solid #999;padding:1.5mm 2mm}
 .cues{table-layout:fixed}th,td{box-sizing:border-box}.cues td{overflow-wrap:anywhere}
 .number{width:13%}.name{width:21%}.time{width:11.5%}.what{width:29%;font-size:8.5pt}
-.call{width:14%}
+.call{width:14%}.held{width:52%}
 .cue{font-size:13pt;font-weight:700;white-space:nowrap}.label{font-weight:600}
 .follows{border-left:3pt solid #000}.small{font-size:8.5pt;font-weight:400}
 .kind{font-weight:700}.records{width:auto}
@@ -115,24 +115,32 @@ def _records(name: str, records: dict[int, Record]) -> list[str]:
     return [f"<h2>{name}</h2>", '<table class="records"><tbody>', *rows, "</tbody></table>"]
 
 
-def page_of(sheet: Sheet) -> str:
-    """The page, as a file."""
-    explained = f"Cues in the order of GO. {_LEVELS if sheet.show.patch else _UNPATCHED}"
+def document_of(title: str, origin: str, explained: str, body: list[str]) -> str:
+    """A page to print, as a file: its title, what it is of, what it shows, and that."""
     return "\n".join(
         [
             "<!DOCTYPE html>",
             '<html lang="en"><head><meta charset="utf-8">',
             f'<meta http-equiv="Content-Security-Policy" content="{_POLICY}">',
             '<meta name="viewport" content="width=device-width, initial-scale=1">',
-            f"<title>{escape(sheet.title)}</title>",
+            f"<title>{escape(title)}</title>",
             f"<style>{_STYLE}</style></head><body>",
-            f"<h1>{escape(sheet.title)}</h1>",
-            f'<p class="faint">{escape(sheet.origin)}</p>',
+            f"<h1>{escape(title)}</h1>",
+            f'<p class="faint">{escape(origin)}</p>',
             f"<p>{explained}</p>",
-            *_cues(sheet),
-            *_records("Submasters", sheet.show.subs),
-            *_records("Groups", sheet.show.groups),
+            *body,
             "</body></html>",
             "",
         ]
     )
+
+
+def page_of(sheet: Sheet) -> str:
+    """The page of a cue sheet."""
+    explained = f"Cues in the order of GO. {_LEVELS if sheet.show.patch else _UNPATCHED}"
+    body = [
+        *_cues(sheet),
+        *_records("Submasters", sheet.show.subs),
+        *_records("Groups", sheet.show.groups),
+    ]
+    return document_of(sheet.title, sheet.origin, explained, body)
