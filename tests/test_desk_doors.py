@@ -22,6 +22,7 @@ from tooling import PATIENCE, run_tool, wait_for
 from cueplayer_tools import desk_picture, desk_pins
 from cueplayer_tools.desk_network import warnings
 from cueplayer_tools.desk_pins import Pins, Role
+from cueplayer_tools.desk_server import PIN_FILES
 from cueplayer_tools.own_addresses import is_public
 from cueplayer_tools.words import Refused
 
@@ -84,11 +85,12 @@ class Guests(DoorTest):
         """Without it there is only the page that asks for it; with it the session plays."""
         desk, page, door = self.open_desk()
         desk.err.find("desk: no TLS: the network is trusted")
-        for name in ("/", "/pin.js"):
-            self.assertNotRegex(door.request("GET", name)[1], r"https?://|<style|\son\w+=|\sstyle=")
-        for name, status in (("/", 200), ("/pin.js", 200), ("/desk.css", 200), ("/desk.js", 401),
-                             ("/events", 401), ("/other", 401), ("//", 401), ("/../desk.js", 401)):
-            self.assertEqual(status, door.request("GET", name)[0], name)
+        for name in PIN_FILES:
+            status, content, _ = door.request("GET", f"/{name}")
+            self.assertEqual(200, status, name)
+            self.assertNotRegex(content, r"https?://|<style|\son\w+=|\sstyle=")
+        for name in ("desk.js", "desk.css", "events", "look/1", "other", "/", "../desk.js"):
+            self.assertEqual(401, door.request("GET", f"/{name}")[0], name)
         self.assertIn("asks for its PIN", door.request("GET", "/")[1])
         self.assertEqual(401, door.press(page, "go"))
         self.assertEqual(401, door.request("POST", "/pins", "new")[0])
@@ -348,7 +350,7 @@ class InBrowser(DoorTest):
         played.wait("!document.body.classList.contains('is-dead')")
         relay.seconds = 0.9
         played.press(" ", "Space", " ")
-        played.wait("document.getElementById('alarms').innerText.includes('nothing was sent')")
+        played.wait("document.getElementById('said').innerText.includes('nothing was sent')")
         relay.seconds = 0.0
         page.command("sub 1 FL")
         self.assertIsNone(page.wait(masters={"sub 1": 255})["current"])
@@ -395,7 +397,7 @@ class InBrowser(DoorTest):
             each.wait("document.getElementById('next').textContent === '1 one'")
         watched.wait("document.getElementById('role').textContent.startsWith('Watching')")
         self.assertEqual(
-            "none", watched.value("getComputedStyle(document.querySelector('.buttons')).display")
+            "none", watched.value("getComputedStyle(document.getElementById('dock')).display")
         )
         watched.press(" ", "Space", " ")
         watched.press("Backspace")

@@ -5,10 +5,12 @@ import random
 import signal
 import time
 import unittest
+from unittest import mock
 
 from desks import DeskTest
 from tooling import run_tool, stand_still, wait_for
 
+from cueplayer_tools import midi_port
 from cueplayer_tools.midi_bytes import Exclusive, MidiReader, Note
 from cueplayer_tools.midi_show import Wanted, line_of
 from cueplayer_tools.words import Refused, command_line
@@ -184,6 +186,19 @@ class Device(DeskTest):
         self.assertIsNone(page.wait(masters={"sub 1": 255})["current"])
         os.write(device, show(GO))
         page.wait(current="1")
+
+    def test_pulled_out(self):
+        """A device that has gone stays told, and that it is back is good news."""
+        reader, writer = os.pipe()
+        told = []
+        with mock.patch.object(midi_port, "open_port", side_effect=[reader, os.dup(reader)]):
+            port = midi_port.MidiPort("/dev/midi", Wanted(), lambda *each: told.append(each))
+            os.close(writer)
+            port.take(self.fail)
+            port._open_again()
+        os.close(port.device)
+        gone, back = "MIDI: /dev/midi has gone: plug it in again", "MIDI: /dev/midi is back"
+        self.assertEqual([(gone, "fault"), (back, "good")], told)
 
     def test_words(self):
         """What is no device, or no note, is told before the night."""

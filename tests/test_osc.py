@@ -1,6 +1,7 @@
 """`tools/osc`: Open Sound Control datagrams, and the lines that they ask for."""
 
 import contextlib
+import itertools
 import math
 import queue
 import random
@@ -259,9 +260,11 @@ class Port(unittest.TestCase):
         self.addCleanup(self.receiver.close)
         self.port = OscPort(self.receiver, self.told.append)
 
-    def sender(self):
+    def sender(self, machine=1):
+        """A port of its own of this machine, 127.0.0.N."""
         sender = socket.socket(socket.AF_INET, socket.SOCK_DGRAM)
         self.addCleanup(sender.close)
+        sender.bind((f"127.0.0.{machine}", 0))
         sender.connect(self.receiver.getsockname())
         return sender
 
@@ -285,16 +288,41 @@ class Port(unittest.TestCase):
         self.assertLessEqual(len(self.told), seconds + 1)
         self.assertIn("go", self.lines)
 
+    def test_one_machine_floods(self):
+        """From two hundred ports it takes half of the time for reading, and the presses of other
+        machines are read: short ones and long ones."""
+        long = bundle(*[message("/cueplayer/none")] * 2_000)
+        press, other = bundle(*[message("/cueplayer/sub/1", 0.5)] * 20), self.sender(2)
+        few = mock.patch.dict(osc_port.MOST_READING, short=0.001, long=0.2)
+        with few, mock.patch.object(osc_port.time, "monotonic", lambda: self.port.second):
+            for flood in (long, GO):
+                for _ in range(200):
+                    sender = self.sender()
+                    sender.send(flood)
+                    self.take()
+                    sender.close()
+            taken = len(self.lines)
+            self.assertLess(taken, 200)
+            for datagram in (press, GO):
+                self.sender().send(datagram)
+                self.take()
+            self.assertEqual(taken, len(self.lines))
+            for datagram in (press, GO):
+                other.send(datagram)
+                self.take()
+        self.assertEqual(["sub 1 H80"] * 20 + ["go"], self.lines[taken:])
+
     def test_reading(self):
         """However many send, what is long to read takes no more than its part of a second, and
         neither does what is short; the rest is refused, and told."""
         long, now = bundle(*[message("/cueplayer/none")] * 2_000), [self.port.second]
         press, one = bundle(*[message("/cueplayer/sub/1", 0.5)] * 20), self.sender()
+        machines = itertools.cycle(range(2, 200))
         self.assertGreater(len(press), osc_port.PART)
         few = mock.patch.dict(osc_port.MOST_READING, short=0.005, long=0.02)
         with few, mock.patch.object(osc_port.time, "monotonic", lambda: now[0]):
             while self.port.reading["long"] <= 0.02:
-                self.sender().send(long)
+                self.sender(next(machines)).send(long)
                 self.take()
             for datagram in (press, GO):
                 one.send(datagram)
@@ -309,7 +337,7 @@ class Port(unittest.TestCase):
             # On a quick machine one sender may not send as much in a second.
             with mock.patch.object(osc_port, "MOST_OF_ONE", 1_000_000):
                 while self.port.reading["short"] <= 0.005:
-                    one.send(GO)
+                    self.sender(next(machines)).send(GO)
                     self.take()
             taken = len(self.lines)
             self.sender().send(GO)

@@ -36,8 +36,9 @@ def open_port(path: str) -> int:
 class MidiPort:
     """A device that is listened to; where it is pulled out it is looked for."""
 
-    def __init__(self, path: str, wanted: Wanted, tell: Callable[[str], None]) -> None:
-        """Opens the device; Refused where that cannot be. `tell` may not wait."""
+    def __init__(self, path: str, wanted: Wanted, tell: Callable[[str, str], None]) -> None:
+        """Opens the device; Refused where that cannot be. `tell` gets a text and its kind as of a
+        notice, and may not wait."""
         self.path = path
         self.wanted = wanted
         self.tell = tell
@@ -76,7 +77,8 @@ class MidiPort:
             self._lose()
         elif is_late:
             self.reader.forget()
-            self.tell("MIDI: what came was not read within a second, and is skipped: press again")
+            text = "MIDI: what came was not read within a second, and is skipped: press again"
+            self.tell(text, "late")
         else:
             self._hand_on(data, give)
 
@@ -98,14 +100,14 @@ class MidiPort:
             return
         more = f" ({self.untold} more before)" if self.untold else ""
         self.told_at, self.untold = now, 0
-        self.tell(f"MIDI: {text}{more}")
+        self.tell(f"MIDI: {text}{more}", "refused")
 
     def _lose(self) -> None:
         if self.device is not None:
             os.close(self.device)
         self.device = None
         self.reader.forget()
-        self.tell(f"MIDI: {self.path} has gone: plug it in again")
+        self.tell(f"MIDI: {self.path} has gone: plug it in again", "fault")
 
     def _open_again(self) -> None:
         try:
@@ -113,4 +115,4 @@ class MidiPort:
         except Refused:
             return
         self.looked_at = time.monotonic()
-        self.tell(f"MIDI: {self.path} is back")
+        self.tell(f"MIDI: {self.path} is back", "good")

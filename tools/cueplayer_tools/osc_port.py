@@ -27,8 +27,10 @@ MOST_OF_ONE = 1_000
 PART = 256
 MOST_SENDERS = 4_096
 # Seconds of a processor: of a second those for reading, whoever sends, of datagrams of up to a part
-# and of longer ones; and those for reading before the caller looks at anything else.
+# and of longer ones; below, those for reading before the caller looks at anything else.
 MOST_READING = {"short": 0.3, "long": 0.1}
+# The part of it that one machine takes, from however many ports.
+MOST_OF_A_MACHINE = 0.5
 MOST_AT_A_STRETCH = 0.002
 # Datagrams that are taken before the caller looks at anything else.
 MOST_AT_ONCE = 256
@@ -105,6 +107,8 @@ class OscPort:
         self.refusals = Refusals(tell)
         self.spent: dict[Address, int] = {}
         self.reading = dict.fromkeys(MOST_READING, 0.0)
+        # The same of each machine, by its address.
+        self.reading_of: dict[tuple[str, str], float] = {}
         self.second = time.monotonic()
         self.lost = 0
         # Asked once, the system notes the arrival of each datagram.
@@ -136,8 +140,7 @@ class OscPort:
                 self.refusals.add(sender, datagram)
             elif self._has_spent(sender, datagram):
                 self.refusals.add(sender, f"more than {MOST_OF_ONE} datagrams in a second")
-            elif self.reading[_kind(datagram)] > MOST_READING[_kind(datagram)]:
-                told = f"more {_kind(datagram)} datagrams in a second than can be read"
+            elif told := self._lacks_time(sender, _kind(datagram)):
                 self.refusals.add(sender, told)
             else:
                 self._hand_on(datagram, sender, give)
@@ -150,6 +153,15 @@ class OscPort:
         spent = self.spent.get(sender, 0) + 1 + len(datagram) // PART
         self.spent[sender] = spent
         return spent > MOST_OF_ONE
+
+    def _lacks_time(self, sender: Address, kind: str) -> str:
+        """Why there is no time to read a datagram of this kind; empty where there is."""
+        most = MOST_READING[kind]
+        if self.reading[kind] > most:
+            return f"more {kind} datagrams in a second than can be read"
+        if self.reading_of.get((sender[0], kind), 0.0) > most * MOST_OF_A_MACHINE:
+            return f"more {kind} datagrams of one machine in a second than can be read"
+        return ""
 
     def _asks(self, datagram: bytes, sender: Address) -> bool:
         """Whether this was somebody who wants to be told, or not any more."""
@@ -170,7 +182,7 @@ class OscPort:
             return
         began = time.thread_time()
         lines, refused = read(datagram)
-        self.reading[_kind(datagram)] += time.thread_time() - began
+        self._spend(sender, _kind(datagram), time.thread_time() - began)
         age = self._age() if lines else 0.0
         for line in lines:
             try:
@@ -181,6 +193,14 @@ class OscPort:
                 refused.append(f"{line}: {fault}")
         for reason in refused:
             self.refusals.add(sender, reason)
+
+    def _spend(self, sender: Address, kind: str, seconds: float) -> None:
+        """Counts the time that reading a datagram took."""
+        if len(self.reading_of) >= MOST_SENDERS:
+            self.reading_of.clear()
+        of_machine = self.reading_of.get((sender[0], kind), 0.0)
+        self.reading_of[sender[0], kind] = of_machine + seconds
+        self.reading[kind] += seconds
 
     def _age(self) -> float:
         """Seconds since the datagram that was read last came; 0 where the system does not say."""
@@ -195,6 +215,7 @@ class OscPort:
         self.second = now
         self.spent.clear()
         self.reading = dict.fromkeys(MOST_READING, 0.0)
+        self.reading_of.clear()
         self.refusals.flush()
         lost = self._lost_count()
         if lost != self.lost:
