@@ -6,6 +6,7 @@ import os
 import shutil
 import subprocess
 import tempfile
+import time
 from contextlib import suppress
 
 from tooling import wait_for
@@ -32,6 +33,8 @@ class Browser:
         ours_in, theirs_out = os.pipe()
         words = [CHROMIUM, "--headless", "--disable-gpu", "--remote-debugging-pipe"]
         words += ["--no-first-run", "--disable-background-networking"]
+        # Each page is as quick as one that is looked at, also on a busy machine.
+        words += ["--disable-renderer-backgrounding", "--disable-backgrounding-occluded-windows"]
         words.append(f"--user-data-dir={profile.name}")
         if os.geteuid() == 0:
             words.append("--no-sandbox")
@@ -136,7 +139,7 @@ class BrowserPage:
     def press(self, key, code=None, text="", shift=False):
         """Presses and lets go a key, at wish with Shift held."""
         virtual = {" ": 32, "Enter": 13, "Backspace": 8, "ArrowRight": 39, "ArrowDown": 40}
-        virtual["Tab"] = 9
+        virtual |= {"Tab": 9, "Escape": 27, **{str(digit): 48 + digit for digit in range(10)}}
         self.call("Page.bringToFront")
         named = {"key": key, "code": code or key, "windowsVirtualKeyCode": virtual[key]}
         named["modifiers"] = 8 if shift else 0
@@ -166,12 +169,30 @@ class BrowserPage:
 
     def touch(self, expression):
         """Puts a finger on the middle of an element."""
-        x, y = self.middle(expression)
-        self.call("Input.dispatchTouchEvent", type="touchStart", touchPoints=[{"x": x, "y": y}])
+        self.put_fingers("touchStart", self.middle(expression))
 
     def lift(self):
-        """Lifts the finger."""
-        self.call("Input.dispatchTouchEvent", type="touchEnd", touchPoints=[])
+        """Lifts the fingers."""
+        self.put_fingers("touchEnd")
+
+    def put_fingers(self, kind, *points, first=0):
+        """Tells the page where these fingers are, in the order in which they came, the first of
+        them with this number; those that leave are told with `touchEnd`, and all where none is."""
+        told = [{"x": x, "y": y, "id": number} for number, (x, y) in enumerate(points, first)]
+        self.call("Input.dispatchTouchEvent", type=kind, touchPoints=told)
+
+    def draw_finger(self, start, across, along, steps=12):
+        """Puts a finger there, and draws it so far to the right and down."""
+        x, y = start
+        self.put_fingers("touchStart", start)
+        for step in range(1, steps + 1):
+            self.put_fingers("touchMove", (x + across * step / steps, y + along * step / steps))
+            time.sleep(0.02)
+
+    def pan(self, start, across, along):
+        """Draws a finger over the page, and lifts it."""
+        self.draw_finger(start, across, along)
+        self.lift()
 
     def tap(self, expression):
         """Taps with a finger in the middle of an element."""

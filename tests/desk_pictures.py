@@ -16,22 +16,37 @@ sys.dont_write_bytecode = True
 sys.path[:0] = [str(TESTS), str(TESTS.parent / "tools")]
 
 from browser import Browser, BrowserPage  # noqa: E402  (both are on the path from here on)
+from desk_browser import SIZES, resize  # noqa: E402
 from desks import Page  # noqa: E402
 from pictures import Darkroom, Taken, keep  # noqa: E402
 from program import TOP, text  # noqa: E402
 from test_desk_doors import DoorTest  # noqa: E402
 from tooling import stand_still  # noqa: E402
 
-# A desk, a tablet and a telephone, each way up.
-SIZES = ((1280, 800), (1024, 768), (768, 1024), (390, 844), (844, 390))
-# What the page of this machine shows, and how it comes to that.
+# What the page of this machine shows, each view in its colours.
 VIEWS = {
     "play": ("play", "dark"),
     "light": ("play", "light"),
     "large": ("large", "dark"),
+    "masters": ("masters", "dark"),
     "levels": ("levels", "dark"),
     "more": ("more", "dark"),
 }
+# Of Play: what brings the page into a state, what then holds, and what leaves it.
+STATES = {
+    "search": ("openFinder(true, '2')", "isFinding()", "openFinder(false)"),
+    "blind": (
+        "selectCue('5'); showBlind('5')",
+        "document.querySelectorAll('#blind-channels li').length === 20",
+        "selectCue(null)",
+    ),
+}
+# What `live` says of a network that is not well.
+TROUBLES = (
+    "0:12:05 no link lit: nodes get nothing; check the cable",
+    "record: late, and the light goes on",
+    "something odd",
+)
 SMALL_PLAY = TOP / "examples/small-play.asc"
 # Stands for python3-qrcode, which is not everywhere: a code of this many modules.
 CODE = """
@@ -51,25 +66,10 @@ def big_show() -> bytes:
     for number in range(1, 31):
         lines += [f"CUE {number} ! scene {number}", "UP 3 1"]
         lines += ["FOLLOWON 900"] if number % 7 == 0 else []
+        lines += ["CHAN " + " ".join(f"{channel}@{4 * channel:02}" for channel in range(1, 21))]
     for number in range(1, 9):
         lines += [f"SUB {number} ! sub", "CHAN 1@FL"]
-    return text(*lines, "PATCH 1 1<1@FL")
-
-
-def resize(page: BrowserPage, width: int, height: int) -> None:
-    page.call(
-        "Emulation.setDeviceMetricsOverride",
-        width=width,
-        height=height,
-        deviceScaleFactor=1,
-        mobile=width < 1000,
-    )
-
-
-def colour(page: BrowserPage, theme: str) -> None:
-    """Has the system of the page be dark or light."""
-    features = [{"name": "prefers-color-scheme", "value": theme}]
-    page.call("Emulation.setEmulatedMedia", features=features)
+    return text(*lines, "PATCH 1 " + " ".join(f"{each}<{each}@FL" for each in range(1, 21)))
 
 
 class PicturesTest(DoorTest):
@@ -90,7 +90,6 @@ class PicturesTest(DoorTest):
 
     def opened_page(self, address: str) -> BrowserPage:
         page = self.browser.open_page(address)
-        colour(page, "dark")
         self.wait_for_cue(page)
         return page
 
@@ -107,7 +106,7 @@ class PicturesTest(DoorTest):
     def view(self, name: str) -> None:
         """Brings this machine's page to a view."""
         view, theme = VIEWS[name]
-        colour(self.page, theme)
+        self.page.value(f"showTheme('{theme}')")
         self.page.value(f"document.querySelector('[data-to={view}]').click()")
 
     def all_taken(self) -> Iterator[tuple[str, Taken]]:
@@ -117,20 +116,38 @@ class PicturesTest(DoorTest):
             yield from self.at_sizes(self.page, name)
         yield from self.taken_of_guests()
         self.view("play")
+        for name, (enter, holds, leave) in STATES.items():
+            self.page.value(enter)
+            self.wait_for_rest(holds)
+            yield from self.at_sizes(self.page, name)
+            self.page.value(leave)
+        with open(f"/proc/{self.desk.live}/fd/2", "wb", buffering=0) as told:
+            told.write("".join(line + "\n" for line in TROUBLES).encode())
+        self.page.wait("alarms().length === 3")
+        self.page.value("openList(true)")
+        self.wait_for_rest("isListOpen()")
+        yield from self.at_sizes(self.page, "troubles")
+        self.page.value("openList(false)")
         self.heard.command("goto 99")
-        self.page.wait("document.getElementById('alarms').innerText.includes('NoCue')")
-        self.page.wait("!document.getAnimations().length")
+        self.wait_for_rest("document.getElementById('said').innerText.includes('no such cue')")
+        self.page.value("said.until = Infinity")
         yield from self.at_sizes(self.page, "refused")
+        self.heard.command("master H00")
+        self.wait_for_rest("page.state.grand === 0")
+        yield from self.at_sizes(self.page, "blackout")
         stand_still(self.desk.process.pid)
-        self.page.wait("document.getElementById('alarms').innerText.includes('No word')")
-        self.page.wait("!document.getAnimations().length")
+        self.wait_for_rest("document.getElementById('worst-text').innerText.includes('No word')")
         yield from self.at_sizes(self.page, "silent")
         os.kill(self.desk.process.pid, signal.SIGCONT)
+
+    def wait_for_rest(self, holds: str) -> None:
+        """Waits until this holds, and nothing on the page moves."""
+        self.page.wait(holds)
+        self.page.wait("!document.getAnimations().length")
 
     def taken_of_guests(self) -> Iterator[tuple[str, Taken]]:
         """The page that asks for the PIN, and the one that only watches."""
         page = self.browser.open_page(f"{self.door.origin}/")
-        colour(page, "dark")
         page.wait("document.activeElement.id === 'pin'")
         yield from self.at_sizes(page, "pin")
         page.value(f"document.getElementById('pin').value = '{self.door.watch}'")
@@ -150,7 +167,6 @@ class PicturesTest(DoorTest):
         self.browser = Browser(self)
         self.darkroom = Darkroom(self.browser)
         page = self.browser.open_page(address, width=1280, height=720)
-        colour(page, "dark")
         heard = Page(self, address)
         page.wait("!document.body.classList.contains('is-dead')")
         return page, heard
@@ -161,14 +177,13 @@ class PicturesTest(DoorTest):
         for line in ("goto 4", "sub 1 35"):
             heard.command(line)
         heard.wait(current="4", waiting=0)
-        page.wait("document.getElementById('lit').innerText === '8 slots lit'")
+        page.wait("document.getElementById('lit-channels').innerText === '12 of 14 channels lit'")
         page.value("document.querySelector('[data-to=levels]').click()")
         resize(page, 1280, 720)
         yield "desk-levels", page
         page.value("document.querySelector('[data-to=play]').click()")
-        page.value("document.querySelectorAll('#cues button')[6].click()")
         heard.command("goto 2")
-        page.wait("document.getElementById('fade-text').textContent.startsWith('11')")
+        page.wait("document.getElementById('fade-text').textContent.startsWith('1:5')")
         yield "desk", page
 
 

@@ -65,8 +65,9 @@ class Page:
         test.addCleanup(self.close)
 
     def _read(self):
-        # What is told to a page while it is closed resets its connection.
-        with self.answer, contextlib.suppress(ConnectionResetError):
+        # What is told to a page while it is closed resets its connection; a desk that is made to
+        # stand still may do so for longer than a connection waits.
+        with self.answer, contextlib.suppress(ConnectionResetError, TimeoutError):
             kind = None
             for line in self.answer:
                 name, _, rest = line.decode().rstrip("\n").partition(": ")

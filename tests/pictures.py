@@ -74,9 +74,9 @@ async function coloursOf(data, kind) {
 # Where the controls are: what is not shown is left out.
 BOXES = """(() => {
   const parts = {
-    go: "#go", back: "#back", blackout: "#blackout", goto: "#goto", list: "#cues",
-    current: "#cues [aria-current]", next: "#cues .is-next", master: "#master",
-    alarms: "#alarms", pin: "#pin", grid: "#grid",
+    strip: "#strip", go: "#go", back: "#back", blackout: "#blackout", goto: "#goto",
+    list: "#cues", current: "#cues [aria-current]", next: "#cues .is-next", finder: "#finder",
+    blind: "#blind", master: "#master", channels: "#lit-channels", alarms: "#alarms", pin: "#pin",
   };
   const boxes = {};
   for (const [name, part] of Object.entries(parts)) {

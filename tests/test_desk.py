@@ -306,10 +306,10 @@ class Beside(DeskTest):
             strange = packet(1, {1: 7}, priority=150, cid=CID[:-1] + "2")
             sender.sendto(strange, ("127.0.0.1", int(to.split(":")[1])))
         told = ["cueplayer, priority 150, universe 1"]
-        wait_for(lambda: page.newest["levels"]["others"] == told, "the other source")
+        wait_for(lambda: page.newest["levels"]["others"]["above"] == told, "the other source")
         wait_for(lambda: slots() == {"1": other}, "the levels of the other source")
         wait_for(lambda: slots() == {"1": own}, "our own once it is silent")
-        self.assertEqual([], page.newest["levels"]["others"])
+        self.assertEqual([], page.newest["levels"]["others"]["above"])
 
     @unittest.skipUnless(watches(), NO_WATCH)
     def test_other_sources(self):
@@ -326,19 +326,35 @@ class Beside(DeskTest):
                 other.send(packet(1, {}, sequence, priority=number, cid=cid, options=options))
 
             def is_told(*names):
-                others = page.newest.get("levels", {}).get("others")
-                return others == [f"cueplayer, priority {name}, universe 1" for name in names]
+                below = page.newest.get("levels", {}).get("others", {}).get("below")
+                return below == [f"cueplayer, priority {name}, universe 1" for name in names]
 
             for number in (10, 11, 12):
                 send(number)
             wait_for(lambda: is_told(10, 11, 12), "three sources")
             send(13)
-            crowd = "more than are told apart, universe 1"
-            wait_for(lambda: crowd in page.newest["levels"]["others"], crowd)
+            wait_for(lambda: page.newest["levels"]["others"]["crowded"] == [1], "the crowd")
             numbers = itertools.count(1)
             wait_for(lambda: send(11, next(numbers) % 256) or is_told(11), "the one that goes on")
             send(11, next(numbers) % 256, TERMINATED)
             wait_for(is_told, "no other source")
+
+    @unittest.skipUnless(watches(), NO_WATCH)
+    def test_own_priority(self):
+        """A source is above, beside or below the priority that the night has."""
+        for priority, rank in ((90, "above"), (100, "beside"), (110, "below")):
+            to = f"127.0.0.1:{free_port()}"
+            _, page = self.open_desk("--grid", "--priority", priority, to=to)
+            with socket.socket(socket.AF_INET, socket.SOCK_DGRAM) as other:
+                other.connect(("127.0.0.1", int(to.split(":")[1])))
+
+                def others():
+                    other.send(packet(1, {}, cid=CID[:-1] + "2"))
+                    told = page.newest.get("levels", {}).get("others", {})
+                    return {name: named for name, named in told.items() if named}
+
+                told = {rank: ["cueplayer, priority 100, universe 1"]}
+                wait_for(lambda: others() == told, told)
 
     @unittest.skipUnless(watches(), NO_WATCH)
     def test_watch_that_ends(self):
@@ -373,9 +389,9 @@ class Beside(DeskTest):
                                 (("--grid",), "Address already in use")):
             _, page = self.open_desk(*options)
             wait_for(lambda: page.newest.get("levels"), "levels")
-            self.assertEqual(
-                {"reasons": {"1": reason}, "slots": {}, "others": []}, page.newest["levels"]
-            )
+            others = {"above": [], "beside": [], "below": [], "crowded": []}
+            told = {"reasons": {"1": reason}, "slots": {}, "others": others}
+            self.assertEqual(told, page.newest["levels"])
             page.command("sub 1 FL")
             self.wait_for_level(255)
 

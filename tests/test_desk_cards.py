@@ -62,9 +62,9 @@ class DeskCardsTest(NetworkTest, FolderTest):
         return page, told
 
     def assertShows(self, page, trouble):
-        """The page shows this alone behind its moment, and so until it is over; that line."""
+        """The page shows this alone behind its moment, and so until it is over; that trouble."""
         (shown,) = wait_for(lambda: page.state.get("troubles"), trouble)
-        self.assertRegex(shown, rf"^\d+:\d\d:\d\d {trouble}$")
+        self.assertRegex(shown["text"], rf"^\d+:\d\d:\d\d {trouble}$")
         return shown
 
 
@@ -102,7 +102,7 @@ class DeskCards(DeskCardsTest):
         def other_sources():
             for node in (venue.office, venue.stage):
                 node.within(lambda: send(node))
-            return page.newest["levels"]["others"]
+            return page.newest["levels"]["others"]["beside"]
 
         told = [f"at {STAGE}, priority 100, universe 1"]
         if watches():

@@ -44,7 +44,7 @@ class Evening(DeskCardsTest):
         self.page.call("Emulation.setTouchEmulationEnabled", enabled=True)
         self.page.wait("document.activeElement.id === 'pin'")
         self.page.call("Input.insertText", text=door.play)
-        self.page.tap("document.querySelector('button')")
+        self.page.tap(part("enter"))
         self.page.wait(f"{part('next')}.textContent.startsWith('0.5 ')")
         self.page.wait("!document.body.classList.contains('is-dead')")
         self.came = []
@@ -72,10 +72,12 @@ class Evening(DeskCardsTest):
         and GO to the end."""
         for number in ("0.5", "1", "1.5"):
             self.go(number)
+        self.page.tap("document.querySelector('[data-to=masters]')")
         self.page.value(f"{part('sub-1')}.focus()")
         for _ in range(5):
             self.page.press("ArrowRight")
         self.page.wait("page.state.masters['sub 1'] === 5")
+        self.page.tap("document.querySelector('[data-to=play]')")
         self.page.tap(cue(5))
         self.page.wait(f"{part('goto')}.textContent.startsWith('Go to 4 ')")
         self.page.touch(part("goto"))
@@ -88,17 +90,17 @@ class Evening(DeskCardsTest):
         self.page.tap(part("back"))
         self.wait_for_cue("2")
         for level in (0, 255):
-            self.page.tap(part("blackout"))
+            self.page.touch(part("blackout"))
             self.page.wait(f"page.state.grand === {level}")
+            self.page.lift()
         for number in ("3", "4", "5"):
             self.go(number)
 
     def end(self):
         self.page.tap("document.querySelector('[data-to=more]')")
-        self.page.tap(part("end"))
-        self.page.wait(f"{part('end')}.textContent.includes('once more')")
-        self.page.tap(part("end"))
-        self.page.wait(f"{part('alarms')}.innerText.includes('ended with status 0')")
+        self.page.touch(part("end"))
+        self.page.wait(f"{part('worst-text')}.innerText.includes('The night has ended')")
+        self.page.lift()
         self.came += self.venue.stage.came()
 
     def test_evening(self):

@@ -109,10 +109,13 @@ class Desk(DeskFolderTest):
         start = f"`cueplayer-night {self.night} start`"
         told = f"no live plays the night in {self.night}: {start} goes on with it"
         wait_for(lambda: told in page.notices(), told)
+        self.assertEqual(["away"], [each["kind"] for each in page.state["notices"][-1:]])
         page.wait(late=True)
         self.assertEqual(0, self.run_script("start", "--background").status)
         wait_for(lambda: page.command("go") == 204, "a press that is taken")
         page.wait(current="1", waiting=0, status=None, late=False)
+        # The night is played again, so that it was not is over.
+        wait_for(lambda: told not in page.notices(), "that the desk forgets it")
 
     def test_all_are_killed(self):
         """Desk, keeper, `live` and its spare: `start` and a new desk bring back what was."""
@@ -241,13 +244,15 @@ class Folder(FolderNightTest):
     def test_words(self):
         (self.night / "night").write_text(
             f"/a show.asc\n--to=239.255.0.0\n--cid\n{self.cid}\n--end-with-input\n--base\n7\n"
-            "--any-route\n--interface\nlit\n--to\n3=10.0.0.7\n--name\nthe main\n"
+            "--any-route\n--interface\nlit\n--to\n3=10.0.0.7\n--name\nthe main\n--priority=90\n"
         )
         words = self.read.words()
         self.assertEqual(
-            ("/a show.asc", ["239.255.0.0", "3=10.0.0.7"], "lit", self.cid, 7),
-            (words.show, words.to, words.interface, str(words.cid), words.base),
+            ("/a show.asc", ["239.255.0.0", "3=10.0.0.7"], "lit", self.cid, 7, "90"),
+            (words.show, words.to, words.interface, str(words.cid), words.base, words.priority),
         )
+        (self.night / "night").write_text(f"show\n--to\n1.2.3.4\n--cid\n{self.cid}\n")
+        self.assertIsNone(self.read.words().priority)
         for text in ("", "show\n", f"show\n--cid\n{self.cid}\n", "show\n--to\n1.2.3.4\n--cid\nx\n"):
             (self.night / "night").write_text(text)
             with self.assertRaisesRegex(Refused, "not those of a night"):

@@ -5,6 +5,8 @@ import time
 
 from desks import DeskTest
 
+from cueplayer_tools.desk_server import FILES
+
 
 class Guards(DeskTest):
     def test_requests_of_others(self):
@@ -47,7 +49,7 @@ class Guards(DeskTest):
     def test_headers(self):
         """Nothing is loaded from elsewhere, framed, kept or told to others."""
         _, page = self.open_desk()
-        for name in ("", "desk.css", "press.js", "cues.js", "faders.js", "desk.js"):
+        for name in FILES:
             status, content, headers = page.request("GET", name)
             self.assertEqual((200, "no-store"), (status, headers["Cache-Control"]))
             self.assertIn("default-src 'none'", headers["Content-Security-Policy"])

@@ -329,6 +329,17 @@ class Messages(MessageTest):
         self.hear(self.SKIPPED, self.SENDS, "record: none; --record FILE keeps one", faults[2])
         self.assertEqual([*faults, faults[2]], self.notices())
 
+    def test_good_news(self):
+        """What a spare says as it goes on with the night is no fault."""
+        self.begin_night()
+        typed = "end ends the night, leave leaves the light to others; control-C does nothing"
+        self.hear(self.SKIPPED, self.SENDS, "record: night.play", typed)
+        good = [self.SKIPPED, self.SENDS, "record: night.play, goes on at 0:12:05", typed]
+        fault = "record: 3 bytes are still with its writer"
+        self.hear(*good, fault)
+        told = [(each.kind, each.text) for each in self.night.state.notices]
+        self.assertEqual([*(("good", text) for text in good), ("fault", fault)], told)
+
     def test_record(self):
         """A record that cannot be written, or is late, is a trouble in words until it is over."""
         self.begin_night()

@@ -5,79 +5,34 @@ import os
 import signal
 import time
 import unittest
-from unittest import mock
 
 from browser import CHROMIUM, MISSING, Browser
-from desks import NO_WATCH, SHOW, DeskTest, Page, watches
+from desk_browser import HIDDEN, SIZES, VIEWS, DeskBrowserTest, resize, view
+from desks import Page
 from machine import in_time, took
-from program import LIVE_NAME, PROGRAM, TOP, run, text
+from program import LIVE_NAME, TOP, run, text
 from tooling import stand_still, wait_for
 
-# The program, whose `live` also says what is written to a FIFO.
-STUB = """#!/bin/sh
-if [ "$1" = live ]; then cat "{told}" >&2 & fi
-exec "{program}" "$@"
-"""
 
-
-# A desk, a tablet and a telephone, each way up.
-SIZES = ((1280, 800), (1024, 768), (768, 1024), (390, 844), (844, 390))
-# What of a view lies outside the window, or behind something else at its middle.
-HIDDEN = """(() => {
-  const list = document.getElementById("cues").getBoundingClientRect();
-  const row = (at) => document.querySelectorAll("#cues button")[at];
-  const parts = {
-    play: ["current", "next", "go", "back", "blackout", "goto", "master", row(26), row(27)],
-    large: ["current", "next", "go", "back", "blackout"],
-    levels: ["universe", "before", "after"],
-    more: ["double-tap"],
-  }["VIEW"].map((part) => (typeof part === "string" ? document.getElementById(part) : part));
-  return parts.filter((part) => {
-    const box = part.getBoundingClientRect();
-    const [x, y] = [box.x + box.width / 2, box.y + box.height / 2];
-    const seen = document.elementFromPoint(x, y);
-    const isInside = box.top >= 0 && box.bottom <= innerHeight && box.right <= innerWidth;
-    const isListed = !part.closest("#cues") || (y > list.top && y < list.bottom);
-    return !isInside && !part.closest("#cues") || !isListed || !seen
-      || !(part.contains(seen) || seen.contains(part));
-  }).map((part) => part.id || part.textContent);
+# The size of GO, and what is too small to be read or tapped in the dark.
+GO_SIZE = """(() => {
+  const { width, height } = document.getElementById("go").getBoundingClientRect();
+  return [width, height];
+})()"""
+SMALL = """(() => {
+  const isShown = (part) => part.getClientRects().length > 0;
+  const hasLetters = (part) => [...part.childNodes]
+    .some((node) => node.nodeType === Node.TEXT_NODE && node.textContent.trim());
+  const letters = [...document.querySelectorAll("body *")].filter((part) => isShown(part)
+    && hasLetters(part) && parseFloat(getComputedStyle(part).fontSize) < 16);
+  const buttons = [...document.querySelectorAll("nav button, .view button, #dock button")]
+    .filter((part) => isShown(part) && part.getBoundingClientRect().height < 39.5);
+  return [...letters, ...buttons].map((part) => part.id || part.textContent);
 })()"""
 
 
 @unittest.skipUnless(CHROMIUM, MISSING)
-class DeskPage(DeskTest):
-    def shown_page(self, *options, **size):
-        """A desk, its page in a browser, and what a page of our own hears of the same night."""
-        desk, address = self.begin(*options)
-        self.browser = Browser(self)
-        page = self.browser.open_page(address, **size)
-        page.wait("document.getElementById('next').textContent === '1 one'")
-        page.wait("!document.body.classList.contains('is-dead')")
-        return desk, page, Page(self, address)
-
-    def wait_for_cue(self, page, state, cue):
-        """Waits until a page shows this cue: a GO that is pressed before then is refused."""
-        shown = "document.getElementById('current').textContent.split(' ')[0]"
-        page.wait(f"{shown} === '{cue}'")
-        return state.wait(current=cue, waiting=0)
-
-    def wait_for_alarm(self, page, *told):
-        """Waits until an alarm says one of these."""
-        found = set()
-
-        def is_told():
-            found.add(page.text("alarms"))
-            return any(words in text for words in told for text in found)
-
-        try:
-            wait_for(is_told, told)
-        except AssertionError as late:
-            raise AssertionError(f"{told} in {found}") from late
-
-    def assertNoFaults(self):
-        """Nothing was refused by the page's own policy, and no script failed."""
-        self.assertEqual([], self.browser.faults)
-
+class DeskPage(DeskBrowserTest):
     def test_go_moves_light(self):
         """By the space bar wherever the focus is, by the button, and by Enter."""
         _, page, state = self.shown_page()
@@ -115,9 +70,8 @@ class DeskPage(DeskTest):
             came += self.came(0.02)
         page.press("Backspace")
         self.wait_for_cue(page, state, "4")
-        page.value("document.querySelector('[data-to=more]').click()")
-        for _ in range(2):
-            page.click("document.getElementById('end')")
+        view(page, "more")
+        page.hold("document.getElementById('end')")
         state.wait(status=0)
         came += self.came()
         words = ["play", self.show, "--to", self.to, "--cid", self.cid, "--name", LIVE_NAME]
@@ -127,207 +81,19 @@ class DeskPage(DeskTest):
         self.assertGreater(len(came), 3 * 7)
         self.assertNoFaults()
 
-    def cue(self, at):
-        """The button of a cue, from 0."""
-        return f"document.querySelectorAll('#cues button')[{at}]"
-
-    def double_tap(self, page, on=True):
-        """Sets that a double tap goes to a cue, or that it does not."""
-        page.value("document.querySelector('[data-to=more]').click()")
-        page.click("document.getElementById('double-tap')")
-        is_on = "document.getElementById('double-tap').getAttribute('aria-pressed')"
-        page.wait(f"{is_on} === '{str(on).lower()}'")
-        page.value("document.querySelector('[data-to=play]').click()")
-
-    def test_cue_list(self):
-        """A tap selects a cue and moves nothing; a second control goes there. So by keys alone."""
+    def test_faders_by_keys(self):
+        """The arrows move a fader; what another page sets comes to rest on it too."""
         _, page, state = self.shown_page()
-        page.click(self.cue(2))
-        page.wait("document.getElementById('goto').textContent === 'Go to 2 two <b>s'")
-        page.wait(f"{self.cue(2)}.getAttribute('aria-pressed') === 'true'")
-        for _ in range(2):
-            page.click(self.cue(2))
-        self.assertIsNone(state.state["current"])
-        page.click("document.getElementById('goto')")
-        state.wait(current="2")
-        page.wait("document.querySelector('[aria-current]')?.innerText.includes('two <b>s')")
-        page.wait("document.getElementById('goto').getAttribute('aria-disabled') === 'true'")
-        page.value(f"{self.cue(0)}.focus()")
-        page.press("ArrowDown")
-        page.press("Enter", "Enter", "\r")
-        self.assertEqual("2", state.state["current"])
-        page.value("document.getElementById('goto').focus()")
-        page.press("Enter", "Enter", "\r")
-        state.wait(current="1.5")
-        reached = page.value("document.querySelectorAll('#cues [tabindex=\"0\"]').length")
-        self.assertEqual(1, reached)
-        state.command("sub 1 FL")
-        self.assertEqual([], state.wait(masters={"sub 1": 255})["notices"])
-        self.assertNoFaults()
-
-    def test_double_tap(self):
-        """Where it is set so, a second tap on a cue goes there, and two slow ones do not; the page
-        keeps that."""
-        _, page, state = self.shown_page()
-        self.double_tap(page)
-        page.click(self.cue(2))
-        page.click(self.cue(2))
-        state.wait(current="2")
-        page.call("Page.reload")
-        page.wait("document.getElementById('current').textContent === '2 two <b>s'")
-        page.click(self.cue(1), shift=True)
-        page.click(self.cue(1), shift=True)
-        self.assertEqual(0, state.wait(current="1.5")["fade"]["whole"])
-        page.click(self.cue(2))
-        page.click(self.cue(0))
-        page.wait("document.getElementById('goto').textContent === 'Go to 1 one'")
-        self.assertEqual("1.5", state.state["current"])
-        self.double_tap(page, on=False)
-        page.click(self.cue(2))
-        page.click(self.cue(2))
-        page.wait("document.getElementById('goto').textContent === 'Go to 2 two <b>s'")
-        self.assertEqual("1.5", state.state["current"])
-
-    def test_at_once(self):
-        """With Shift held, or held down for a while, the control goes to a cue in time 0; the bar
-        shows that nothing is left."""
-        _, page, state = self.shown_page()
-        page.click(self.cue(1))
-        page.click("document.getElementById('goto')", shift=True)
-        self.assertEqual(0, state.wait(current="1.5")["fade"]["whole"])
-        self.wait_for_level(255)
-        page.click(self.cue(0))
-        page.click("document.getElementById('goto')")
-        state.wait(current="1")
-        page.click(self.cue(1))
-        page.value("document.getElementById('goto').focus()")
-        page.press("Enter", "Enter", "\r", shift=True)
-        self.assertEqual(0, state.wait(current="1.5")["fade"]["whole"])
-        state.command("goto 1")
-        state.wait(current="1", waiting=0)
-        page.click(self.cue(1))
-        page.hold("document.getElementById('goto')")
-        self.assertEqual(0, state.wait(current="1.5")["fade"]["whole"])
-        page.let_go()
-        state.command("sub 1 FL")
-        self.assertEqual(0, state.wait(masters={"sub 1": 255})["fade"]["whole"])
-        self.assertNoFaults()
-
-    def test_times(self):
-        """Times up and down are told apart, and delays from times; what follows is said."""
-        lines = ("CUE 1", "UP 1:30 2.5", "DOWN 4", "FOLLOWON 3", "CUE 2", "UP 5", "DOWN 5", "CUE 3",
-                 "FOLLOWON 2", "CHAN 1@FL", "PATCH 1 1<1@FL")
-        self.show.write_bytes(text(*lines))
-        _, address = self.begin()
-        self.browser = Browser(self)
-        page = self.browser.open_page(address)
-        page.wait("document.querySelectorAll('#cues button').length === 3")
-        told = [
-            page.value(f"[...{self.cue(at)}.children].map((each) => each.textContent).join('|')")
-            for at in range(3)
-        ]
-        first = "1||up 1:30 after 2.5 s, down 4 s|2 follows after 3 s"
-        self.assertEqual([first, "2||up and down 5 s|", "3||up and down 0 s|"], told)
-
-    def test_lines_of_another(self):
-        """A page shows what somebody else hands to the same `live`; in which time is not known."""
-        self.show.write_bytes(text("FOO") + SHOW)
-        desk, page, _ = self.shown_page()
-        skipped = "1 line skipped: see cueplayer explain"
-        page.wait(f"document.getElementById('skipped').innerText === '{skipped}'")
-        with open(f"/proc/{desk.live}/fd/0", "wb", buffering=0) as other:
-            other.write(b"goto 1.5 in 20\nsub 1 50\n")
-        page.wait("document.getElementById('current').textContent === '1.5 half past'")
-        page.wait("document.getElementById('next').textContent === '2 two <b>s'")
-        page.wait("document.getElementById('fade-text').textContent === 'not known'")
-        page.wait("document.getElementById('sub-1').value === '128'")
-        page.press("Backspace")
-        page.wait("document.getElementById('current').textContent === '1 one'")
-        page.wait("document.getElementById('fade-text').textContent === ''")
-        self.assertEqual("", page.text("alarms"))
-        self.assertNoFaults()
-
-    def test_network(self):
-        """The page says by which card the night is sent; what keeps packets from nodes stands there
-        until it is over, also behind a move, and cannot be dismissed."""
-        told = self.folder / "told"
-        os.mkfifo(told)
-        stub = self.file("stub", STUB.format(told=told, program=PROGRAM).encode())
-        stub.chmod(0o755)
-        # Held open to its end, so that what is written there comes in its order.
-        with mock.patch.dict(os.environ, CUEPLAYER=str(stub)), open(
-            told, "r+b", buffering=0
-        ) as network:
-            _, page, state = self.shown_page()
-            page.wait("document.getElementById('ways').textContent === 'from 127.0.0.1 (lo)'")
-            lines = (
-                b"0:12:05 no link lit: nodes get nothing; check the cable",
-                b"0:12:05 no link off: x",
-            )
-            network.write(b"\n".join(lines) + b"\n")
-            page.wait("document.querySelectorAll('#alarms .alarm').length === 2")
-            page.press(" ", "Space", " ")
-            state.wait(current="1")
-            page.wait("document.getElementById('current').textContent === '1 one'")
-            self.assertEqual("\n".join(line.decode() for line in lines), page.text("alarms"))
-            self.assertEqual(0, page.value("document.querySelectorAll('#alarms button').length"))
-            network.write(b"0:12:11 link lit\n")
-            page.wait("document.querySelectorAll('#alarms .alarm').length === 1")
-            network.write(b"0:12:11 link off\n")
-            page.wait("document.getElementById('alarms').innerText === ''")
-        self.assertNoFaults()
-
-    def test_follow_on(self):
-        """The cue that follows by itself is marked when it goes."""
-        lines = ("CUE 1 ! one", "FOLLOWON 3", "CUE 2 ! two", "UP 4", "CHAN 1@FL", "PATCH 1 1<1@FL")
-        self.show.write_bytes(text(*lines))
-        _, page, _ = self.shown_page()
-        page.press(" ", "Space", " ")
-        page.wait("document.getElementById('current').textContent === '1 one'")
-        page.wait("/^Cue 2 follows by itself in [0-2]\\.\\d s$/.test("
-                  "document.getElementById('follow').textContent)")
-        page.wait("document.querySelector('[aria-current]').innerText.includes('two')")
-        page.wait("document.getElementById('follow').textContent === ''")
-        self.assertEqual(("2 two", "none"), (page.text("current"), page.text("next")))
-        page.wait("document.getElementById('fade-text').textContent.endsWith(' s left')")
-
-    def test_faders_and_blackout(self):
-        _, page, state = self.shown_page()
+        view(page, "masters")
         page.value("document.getElementById('sub-1').focus()")
         for _ in range(3):
             page.press("ArrowRight")
         state.wait(masters={"sub 1": 3})
         self.wait_for_level(3)
-        page.wait("document.querySelectorAll('output')[1].textContent === '1 %'")
-        page.click("document.getElementById('blackout')")
-        state.wait(grand=0)
-        self.wait_for_level(0)
-        page.wait("document.getElementById('blackout').getAttribute('aria-pressed') === 'true'")
-        page.click("document.getElementById('blackout')")
-        state.wait(grand=255)
-        self.wait_for_level(3)
-        # What another page sets comes to rest on this one's fader.
+        page.wait("document.querySelectorAll('.fader .share')[1].textContent === '1 %'")
         state.command("sub 1 FL")
         page.wait("document.getElementById('sub-1').value === '255'")
         self.assertNoFaults()
-
-    def test_alarms(self):
-        """What is refused is told in words until it is dismissed; a dead console at once."""
-        desk, page, state = self.shown_page()
-        page.press("Backspace")
-        page.wait("document.getElementById('alarms').innerText.includes('back: refused, AtStart')")
-        page.click("document.querySelector('#alarms button')")
-        page.wait("document.getElementById('alarms').innerText === ''")
-        os.kill(desk.live, signal.SIGKILL)
-        page.wait("document.getElementById('alarms').innerText.includes('The night has ended')")
-        page.wait("document.body.classList.contains('is-dead')")
-        page.press(" ", "Space", " ")
-        self.assertIsNone(state.wait(status=-9)["current"])
-
-    def test_desk_that_dies(self):
-        desk, page, _ = self.shown_page()
-        desk.process.kill()
-        page.wait("document.getElementById('alarms').innerText.includes('No word from the desk')")
 
     def test_closed_and_opened_again(self):
         _, page, state = self.shown_page()
@@ -349,14 +115,15 @@ class DeskPage(DeskTest):
         page.press(" ", "Space", " ")
         told = "go: nothing was sent: no answer within a second; press again"
         # A machine that is so busy that the press comes to the page late finds the page dead.
-        self.wait_for_alarm(page, told, "No word from the desk")
+        page.wait(f"byId('said').textContent.includes('{told}') || "
+                  "byId('worst-text').textContent.startsWith('No word from the desk')")
         os.kill(desk.process.pid, signal.SIGCONT)
         page.wait("!document.body.classList.contains('is-dead')")
         state.command("sub 1 FL")
         self.assertIsNone(state.wait(masters={"sub 1": 255})["current"])
         page.press(" ", "Space", " ")
         state.wait(current="1")
-        page.wait("document.getElementById('alarms').innerText === ''")
+        page.wait("document.getElementById('worst').hidden")
 
     def test_page_that_is_busy(self):
         """A press is as old as its event: it is told, and not carried out after the page's rest."""
@@ -376,7 +143,7 @@ class DeskPage(DeskTest):
 
         def is_told():
             before = state.state["current"]
-            told = is_late() and "this page was busy for a second" in page.text("alarms")
+            told = is_late() and "this page was busy for a second" in page.text("said")
             return told and state.state["current"] == before
 
         wait_for(is_told, "a press that came late, and was told")
@@ -392,7 +159,7 @@ class DeskPage(DeskTest):
         state.wait(current="1", waiting=0)
         wait_for(state.notices, "the second is told")
         self.assertRegex(state.notices()[0], "^go: (a second GO|another cue|a move is on its way)")
-        page.wait("document.getElementById('alarms').innerText.includes('nothing was sent')")
+        page.wait("document.getElementById('said').innerText.includes('nothing was sent')")
         state.command("sub 1 FL")
         self.assertEqual("1", state.wait(masters={"sub 1": 255})["current"])
 
@@ -433,8 +200,8 @@ class DeskPage(DeskTest):
             page.wait("!document.body.classList.contains('is-dead')")
         more = [self.browser.open_page(address) for _ in range(2)]
         for page in more:
-            page.wait("document.getElementById('alarms').innerText.startsWith('4 pages of this')")
-            page.wait("document.getElementById('link').innerText === 'One page too many'")
+            page.wait("document.getElementById('worst-text').innerText.startsWith('4 pages of')")
+            page.wait("document.getElementById('link').textContent === 'One page too many'")
             self.assertTrue(page.value("document.body.classList.contains('is-dead')"))
         for page, cue in ((first, "1"), (others[2], "1.5"), (first, "2")):
             pressed = time.monotonic()
@@ -449,100 +216,132 @@ class DeskPage(DeskTest):
         self.assertEqual([], state.notices())
         self.assertNoFaults()
 
-    def test_end_takes_two_presses(self):
-        _, page, state = self.shown_page()
-        page.value("document.querySelector('[data-to=more]').click()")
-        page.click("document.getElementById('end')")
-        page.wait("document.getElementById('end').textContent.includes('once more')")
-        self.assertFalse(state.state["ending"])
-        page.click("document.getElementById('end')")
-        state.wait(status=0)
-
     def test_sizes(self):
-        """At each size GO, the cues, the masters and the tail of the list are seen without
-        scrolling, and nothing lies beside the page, or behind another part."""
+        """At each size GO, the cue that is on and the next one are seen without scrolling, and
+        nothing lies beside the page, or behind another part; no letter and no button is small."""
         cues = [
             line for number in range(1, 31) for line in (f"CUE {number} ! scene {number}", "UP 3 1")
         ]
         subs = [line for number in range(1, 9) for line in (f"SUB {number} ! sub", "CHAN 1@FL")]
         self.show.write_bytes(text(*cues, *subs, "PATCH 1 1<1@FL"))
-        _, address = self.begin()
-        state = Page(self, address)
-        state.wait(placed=True)
+        _, page, state = self.shown_page()
         state.command("goto 27 in 0")
-        self.browser = Browser(self)
-        page = self.browser.open_page(address)
         page.wait("document.getElementById('current').textContent === '27 scene 27'")
         for width, height in SIZES:
-            page.call("Emulation.setDeviceMetricsOverride", width=width, height=height,
-                      deviceScaleFactor=1, mobile=width < 1000)
-            for view in ("play", "large", "levels", "more"):
-                with self.subTest(view, width=width, height=height):
-                    page.value(f"document.querySelector('[data-to={view}]').click()")
-                    wide, tall = page.value(
-                        "[document.documentElement.scrollWidth, "
-                        "document.documentElement.scrollHeight]"
-                    )
-                    self.assertLessEqual((wide, tall), (width, height))
-                    self.assertEqual([], page.value(HIDDEN.replace("VIEW", view)))
-                    if view in ("play", "large"):
-                        box = "document.getElementById('go').getBoundingClientRect().height"
-                        self.assertGreaterEqual(page.value(box), 100)
+            resize(page, width, height)
+            for name in VIEWS:
+                with self.subTest(name, width=width, height=height):
+                    view(page, name)
+                    self.assertEqual([], page.value(HIDDEN.replace("VIEW", name)))
+                    self.assertEqual([], page.value(SMALL))
+                    wide, high = page.value(GO_SIZE)
+                    self.assertGreaterEqual((wide * 3, high), (width, 100))
+            with self.subTest("the number pad", width=width, height=height):
+                view(page, "play")
+                for keys in ("123", "abc"):
+                    page.value(f"openFinder(true); typeInFinder('{keys}')")
+                    self.assertEqual([], page.value(SMALL))
+                page.value("openFinder(false)")
         self.assertNoFaults()
 
     def test_colours(self):
-        """Dark and light, as the system or as set; the large view is for the dark."""
+        """Dark from the first paint on, also where the system is light, until something else is
+        chosen; the large view stays dark."""
         _, page, _ = self.shown_page()
         paper = "getComputedStyle(document.body).backgroundColor"
-        for theme, colour in (("dark", "rgb(16, 19, 23)"), ("light", "rgb(244, 245, 247)")):
-            page.call("Emulation.setEmulatedMedia",
-                      features=[{"name": "prefers-color-scheme", "value": theme}])
-            self.assertEqual(colour, page.value(paper))
-        page.value("document.querySelector('[data-to=more]').click()")
-        page.click("document.querySelector('[data-theme-is=dark]')")
-        page.wait(f"{paper} === 'rgb(16, 19, 23)'")
-        page.value("document.querySelector('[data-to=large]').click()")
+        dark, light = "rgb(8, 9, 11)", "rgb(241, 240, 237)"
+        page.call("Emulation.setEmulatedMedia",
+                  features=[{"name": "prefers-color-scheme", "value": "light"}])
+        self.assertEqual(dark, page.value(paper))
+        view(page, "more")
+        for theme, colour in (("light", light), ("dark", dark), ("auto", light)):
+            page.click(f"document.querySelector('[data-theme-is={theme}]')")
+            page.wait(f"{paper} === '{colour}'")
+        page.value("window.isOld = true")
+        page.call("Page.reload")
+        page.wait(f"!window.isOld && {paper} === '{light}'")
+        # A click on a page whose scripts have not run yet does nothing.
+        large = "document.querySelector('[data-to=large]').click()"
+        page.wait(f"({large}, document.body.dataset.view === 'large')")
         page.wait(f"{paper} === 'rgb(0, 0, 0)'")
+
+    def test_awake(self):
+        """Where the browser lets it the page keeps the screen on, and where not it says how to set
+        a tablet."""
+        _, page, _ = self.shown_page()
+        resize(page, 390, 844)
+        asked = "Object.defineProperty(navigator, 'wakeLock', { configurable: true, value: LOCK })"
+        lock = "{ request: async () => ({ addEventListener() {} }) }"
+        for value, told, is_hidden in ((lock, "The screen stays on", "true"),
+                                       ("undefined", "This page cannot keep", "false")):
+            page.value(asked.replace("LOCK", value))
+            page.value("stayAwake()")
+            page.wait(f"document.getElementById('awake').textContent.startsWith('{told}')")
+            page.wait(f"document.getElementById('sleep').hidden === {is_hidden}")
+        page.tap("document.getElementById('sleep')")
+        page.wait("document.body.dataset.view === 'more'")
+
+    def test_felt(self):
+        """A press is felt where the operator has chosen that, and else is not."""
+        _, page, state = self.shown_page("--double-go", 0)
+        resize(page, 390, 844)
+        page.value("window.felt = 0; navigator.vibrate = () => { window.felt += 1; }")
+        page.tap("document.getElementById('go')")
+        self.wait_for_cue(page, state, "1")
+        self.assertEqual(0, page.value("window.felt"))
+        view(page, "more")
+        page.tap("document.getElementById('buzz')")
+        page.wait("document.getElementById('buzz').getAttribute('aria-pressed') === 'true'")
+        page.value("window.felt = 0")
+        page.tap("document.getElementById('go')")
+        page.wait("window.felt === 1")
+        self.wait_for_cue(page, state, "1.5")
 
     def test_names(self):
         """A screen reader has a name for each button and fader."""
         _, page, _ = self.shown_page()
         buttons = page.names("button")
         cue = "Cue 1.5 half past, up 2 s after 1 s, down 1 s"
-        for name in ("GO", "BACK", "BLACKOUT", cue, "Go to: select a cue", "Play", "Large", "More"):
+        for name in ("GO", "BACK", "BLACKOUT hold", cue, "Go to: tap a cue", "Find", "Masters"):
             self.assertIn(name, buttons)
         self.assertNotIn("", buttons)
+        bars = page.names("progressIndicator") or page.names("progressbar")
+        self.assertEqual(["Fade", "Follow"], bars)
+        view(page, "masters")
         self.assertEqual({"Grand master", "sub 1 all", "group 3"}, set(page.names("slider")))
-        self.assertEqual(["Fade"], page.names("progressIndicator") or page.names("progressbar"))
-        page.value("document.querySelector('[data-to=levels]').click()")
+        view(page, "levels")
+        self.assertIn("Channels", page.names("button"))
+        page.value("chooseLevels('slots')")
         self.assertIn("Universe before", page.names("button"))
-        page.value("document.querySelector('[data-to=more]').click()")
-        self.assertIn("End the night", page.names("button"))
+        view(page, "more")
+        self.assertIn("End the night hold: the light goes out", page.names("button"))
         self.assertNotIn("", page.names("button"))
 
     def test_keys_alone(self):
-        """Tab comes to each control of the view in turn, and Enter carries it out."""
+        """Tab comes to each control of a view in turn, and Enter carries it out."""
         _, page, state = self.shown_page()
-        reached = []
-        page.value("document.querySelector('[data-to=play]').focus()")
-        for _ in range(12):
-            reached.append(
-                page.value("document.activeElement.id || document.activeElement.textContent")
-            )
-            page.press("Tab")
-        for name in ("Large", "More", "go", "back", "blackout", "master", "sub-1", "group-3"):
-            self.assertIn(name, reached)
+        for name, parts in (("play", ("find", "back", "blackout", "go")),
+                            ("masters", ("master", "sub-1", "group-3", "go"))):
+            view(page, name)
+            reached = []
+            page.value("document.querySelector('[data-to=play]').focus()")
+            for _ in range(14):
+                reached.append(page.value("document.activeElement.id"))
+                page.press("Tab")
+            for part in parts:
+                self.assertIn(part, reached)
+        view(page, "play")
         page.value("document.getElementById('go').focus()")
         page.press("Enter", "Enter", "\r")
         self.wait_for_cue(page, state, "1")
-        # The list has the focus at the next cue; one step back is the control that goes.
-        for _ in range(12):
+        # The list has the focus at the next cue; one step on is the control that goes.
+        for _ in range(14):
             if page.value("document.activeElement.closest('#cues') !== null"):
                 break
             page.press("Tab")
         page.press("ArrowDown")
         page.press("Enter", "Enter", "\r")
-        page.press("Tab", shift=True)
+        page.press("Tab")
         self.assertEqual("goto", page.value("document.activeElement.id"))
         page.press("Enter", "Enter", "\r")
         state.wait(current="2")
@@ -559,25 +358,3 @@ class DeskPage(DeskTest):
         state.command("sub 1 FL")
         self.assertIsNone(state.wait(masters={"sub 1": 255})["current"])
 
-    def test_levels(self):
-        """The grid shows what came; elsewhere it says why there is none."""
-        _, page, _ = self.shown_page()
-        page.wait("document.getElementById('lit').innerText.includes('not received here')")
-        page.wait("document.getElementById('grid').getBoundingClientRect().height === 0")
-
-
-@unittest.skipUnless(CHROMIUM, MISSING)
-class Grid(DeskTest):
-    @unittest.skipUnless(watches(), NO_WATCH)
-    def test_grid(self):
-        self.receiver.close()
-        _, address = self.begin("--grid")
-        browser = Browser(self)
-        page = browser.open_page(address)
-        page.wait("document.getElementById('lit').innerText === '0 slots lit'")
-        page.value("document.querySelector('[data-to=levels]').click()")
-        Page(self, address).command("sub 1 50")
-        page.wait("document.getElementById('lit').innerText === '1 slots lit'")
-        first = page.value("document.getElementById('grid').firstChild.innerText")
-        self.assertEqual("1\n128", first)
-        self.assertEqual([], browser.faults)

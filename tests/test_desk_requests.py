@@ -67,6 +67,8 @@ class Requests(DeskTest):
                 b"\0" * 100,
                 whole.replace(b"HTTP/1.1", b"HTTP/2.0"),
                 whole.replace(b"Content", b"Content-Length: 1\r\nContent"),
+                whole.replace(b"Origin", b"Host: stage.example\r\nOrigin"),
+                whole.replace(b"Origin", b"Origin: http://stage.example\r\nOrigin"),
                 whole.replace(b"Content", b"Transfer-Encoding: chunked\r\nContent"),
                 whole.replace(b"Desk-Time", b"Other"),
                 whole.replace(b"Desk-State", b"Other"),
@@ -348,3 +350,31 @@ class TooMany(DeskTest):
         page.command("sub 9 FL")
         wait_for(lambda: any("NoSub" in told for told in page.notices()), "the answer behind it")
         self.assertEqual("2", page.state["current"])
+
+
+class Whose(DeskTest):
+    def test_pages(self):
+        """A refusal has the word of the page that asked, whether `live` refuses or the desk; what
+        is no such word is nobody's. Each page hears of each."""
+        _, page = self.open_desk()
+        other = Page(self, f"{page.origin}{page.path}")
+        asked = (
+            ("back", "0a1b2c3d", "0a1b2c3d"), ("goto 99", "f", "f"), ("nonsense", "00ff", "00ff"),
+            ("back", None, ""), ("back", "", ""), ("back", "xyz", ""), ("back", "a" * 17, ""),
+        )  # fmt: skip
+        for line, word, _ in asked:
+            page.command(line, Desk_Page=word)
+            page.wait(waiting=0)
+        for each in (page, other):
+            wait_for(lambda: len(each.notices()) == len(asked), "a notice for each")
+            told = [notice["page"] for notice in each.state["notices"]]
+            self.assertEqual([word for *_, word in asked], told)
+
+    def test_others(self):
+        """What is told beside presses concerns all."""
+        desk, page = self.open_desk()
+        with open(f"/proc/{desk.live}/fd/2", "wb", buffering=0) as told:
+            told.write(b"something odd\n")
+        wait_for(page.notices, "the notice")
+        self.assertEqual([("fault", "")],
+                         [(each["kind"], each["page"]) for each in page.state["notices"]])

@@ -37,7 +37,9 @@ class Record(DeskTest):
         page.command("go")
         page.wait(current="1")
         wait_for(lambda: page.state["troubles"], "the trouble")
-        self.assertTrue(page.state["troubles"][0].startswith(FULL), page.state["troubles"])
+        (trouble,) = page.state["troubles"]
+        self.assertTrue(trouble["text"].startswith(FULL), trouble)
+        self.assertEqual("record", trouble["kind"])
         page.command("go")
         self.assertEqual(1, len(page.wait(current="1.5")["troubles"]))
 
@@ -130,7 +132,7 @@ class BrokenOffFolder(DeskFolderTest):
 class Shown(DeskTest):
     @unittest.skipUnless(watches(), NO_WATCH)
     def test_other_source(self):
-        """Who else sends on the night's universes stands in the bar, as long as it is heard."""
+        """Who is above the night stands at the top, as long as it is heard: its light is shown."""
         with receiver_socket() as free:
             to = address_of(free)
         _, address = self.begin("--grid", to=to)
@@ -142,10 +144,11 @@ class Shown(DeskTest):
 
             def is_told():
                 other.sendto(strange, ("127.0.0.1", int(to.split(":")[1])))
-                return "Another source sends on this night's universes: House, priority 150" in (
-                    page.text("alarms"))
+                told = "Not our light: the stage shows that of House, priority 150, universe 1"
+                return told == page.text("worst-text")
 
             wait_for(is_told, "the other source")
+        self.assertEqual("red", page.value("document.getElementById('strip').dataset.worst"))
         page.wait("document.getElementById('alarms').innerText === ''")
         self.assertEqual([], browser.faults)
 
@@ -160,9 +163,9 @@ class Shown(DeskTest):
         state.wait(current="2", waiting=0)
         time.sleep(0.1)
         os.kill(desk.live, signal.SIGKILL)
-        page.wait("document.getElementById('alarms').innerText.includes('The night has ended')")
+        page.wait("document.getElementById('worst-text').innerText.includes('Nobody plays')")
         page.wait("document.body.classList.contains('is-dead')")
-        page.click("document.querySelector('#alarms button')")
+        page.click("document.getElementById('worst-act')")
         page.wait("document.getElementById('alarms').innerText === ''")
         page.wait("document.getElementById('current').textContent === '2 two <b>s'")
         state.wait(status=None, placed=True, waiting=0)

@@ -19,6 +19,7 @@ from cueplayer_tools.cue_list import Show, read_show
 from cueplayer_tools.desk_folder import FolderNight
 from cueplayer_tools.desk_heard import HeardNight
 from cueplayer_tools.desk_levels import LevelReader, Way
+from cueplayer_tools.desk_looks import BlindLooks
 from cueplayer_tools.desk_doors import WordDoor
 from cueplayer_tools.desk_network import (
     add_midi,
@@ -32,6 +33,7 @@ from cueplayer_tools.desk_night import Night
 from cueplayer_tools.desk_press import USUAL_DOUBLE_GO, MoveGuard
 from cueplayer_tools.desk_server import DeskServer
 from cueplayer_tools.desk_view import show_view
+from cueplayer_tools.desk_watch import USUAL_PRIORITY
 from cueplayer_tools.midi_port import MidiPort
 from cueplayer_tools.midi_show import Wanted
 from cueplayer_tools.night_folder import NightFolder
@@ -155,6 +157,12 @@ def _live_words(words: argparse.Namespace) -> list[str]:
     return live
 
 
+def _priority(words: argparse.Namespace) -> int:
+    """The night's own priority. `live` refuses a word that is none."""
+    word = words.priority or ""
+    return int(word) if re.fullmatch(r"\d{1,3}", word, re.ASCII) else USUAL_PRIORITY
+
+
 def _replies(words: argparse.Namespace, tell: Teller) -> Teller:
     """What keeps the lines that `live` prints."""
     kept = words.replies or open(os.devnull, "w", encoding="ascii")
@@ -189,7 +197,7 @@ def _midi(words: argparse.Namespace, tell: Teller) -> MidiPort | None:
     if words.midi is None:
         return None
     wanted = Wanted(words.midi_device, words.midi_go, words.midi_back)
-    return MidiPort(words.midi, wanted, tell)
+    return MidiPort(words.midi, wanted, lambda text, kind: tell(text))
 
 
 class _Presses:
@@ -284,7 +292,7 @@ def run_desk(words: argparse.Namespace, tell: Teller, tell_address: Teller) -> i
     """The desk of one night; the status of `live`, or 0 where the night is another's."""
     folder = _complete(words, tell)
     show = read_show(words.show)
-    way = Way([target(word) for word in words.to], words.interface, words.grid)
+    way = Way([target(word) for word in words.to], words.interface, words.grid, _priority(words))
     if folder is None:
         _refuse_second(words.cid)
     server = DeskServer(WordDoor(words.port), pin_door(words), tell)
@@ -301,7 +309,8 @@ def run_desk(words: argparse.Namespace, tell: Teller, tell_address: Teller) -> i
         _tell_start(words, server, night.live(), (tell, tell_address))
         night.read()
         levels.read(night.wake)
-        server.show(night, levels, show_view(show, Path(words.show).name, words.base, osc))
+        looks = BlindLooks(words.show, show, words.base)
+        server.show(night, levels, show_view(show, Path(words.show).name, words.base, osc), looks)
         _take_others(night, receiver, midi)
         _watch(night, server, presses)
     finally:

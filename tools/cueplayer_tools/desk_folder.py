@@ -97,13 +97,16 @@ class FolderNight(HeardNight):
             self.is_kept = not self.is_away_told or self.folder.is_kept()
             if (was_told, was_kept) == (self.is_away_told, self.is_kept):
                 return
+            if not self.is_away_told:
+                # The night is played again.
+                self.state.forget("away")
             self._change()
             if was_told or not self.is_away_told:
                 return
             if self.folder.has_ended():
                 self.state.status = 0
             else:
-                self.state.tell("fault", self.folder.refusal())
+                self.state.tell("away", self.folder.refusal())
             self._change()
 
     def can_resume(self) -> bool:

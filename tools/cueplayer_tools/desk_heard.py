@@ -43,6 +43,8 @@ START_LINES = (
 )
 # And in front of the record's line, any number of each: to what it sends, and by which card.
 WAY = re.compile(r"target: .*|(?P<way>from .*)|(?P<others>other cards: .*)|no route to .*")
+# What a spare says as it goes on with the night: good to know, and no fault.
+GOOD = re.compile(r"end ends the night.*|record: .*, goes on at .*|show: \d+ cues?, .*|sends: .*")
 
 
 class Clock:
@@ -153,12 +155,12 @@ class HeardNight(ABC):
         if self.is_astray or asked is None or asked == WHERE:
             self._take_strange_answer(answer)
             return
-        given = self.input.oldest_moment()
+        given, page = self.input.oldest_moment(), self.input.oldest_page()
         self.input.take_answered()
         if answer.refusal is None:
             self.state.accept(answer.moment, asked, given)
         else:
-            self.state.tell("refused", f"{asked}: refused, {answer.refusal}")
+            self.state.tell("refused", f"{asked}: refused, {answer.refusal}", page)
 
     def _take_strange_answer(self, answer: Answer) -> None:
         """Takes an answer to a line that is not known: `where` tells what that line did. The end of
@@ -228,6 +230,8 @@ class HeardNight(ABC):
             self._hear_start(begins)
         elif link := read_link_line(line):
             self._hear_link(link, text)
+        elif GOOD.fullmatch(line):
+            self.state.tell("good", text)
         elif way is None:
             self.state.tell("fault", text)
         else:
@@ -279,14 +283,14 @@ class HeardNight(ABC):
                 self.guard.check_page(press, self.input.is_moving())
             if line == GO:
                 self.guard.check_go(at)
-            self.input.give(line)
+            self.input.give(line, "" if press is None else press.page)
             if line == GO:
                 self.guard.go(at)
 
-    def refuse(self, text: str, kind: str = "refused") -> None:
-        """Tells all pages of what was refused before it came to `live`."""
+    def refuse(self, text: str, kind: str = "refused", page: str = "") -> None:
+        """Tells of what was refused before it came to `live`: the page that it concerns, or all."""
         with self.changed:
-            self.state.tell(kind, text)
+            self.state.tell(kind, text, page)
             self._change()
 
     def watch(self) -> None:

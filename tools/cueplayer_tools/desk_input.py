@@ -10,6 +10,7 @@ import sys
 import termios
 import time
 from collections import deque
+from typing import NamedTuple
 
 from cueplayer_tools.night_folder import NightFolder
 from cueplayer_tools.words import MOVES, Refused
@@ -21,32 +22,43 @@ LATE = 1.0
 _MOST_IN_PIPE = 65_536
 
 
+class Given(NamedTuple):
+    """A line that was handed on: when, and the word of the page that it came from, if from one."""
+
+    at: float
+    line: str
+    page: str
+
+
 class Waiting:
     """The lines that were handed on and have no answer yet. Each gets one, in order."""
 
     def __init__(self) -> None:
-        # Each behind the time at which it was handed on.
-        self.waiting: deque[tuple[float, str]] = deque()
+        self.waiting: deque[Given] = deque()
 
     def oldest(self) -> str | None:
         """The line that the next answer is to: the oldest that waits."""
-        return self.waiting[0][1] if self.waiting else None
+        return self.waiting[0].line if self.waiting else None
 
     def oldest_moment(self) -> float:
         """When the oldest line that waits was handed on, by `time.monotonic()`."""
-        return self.waiting[0][0]
+        return self.waiting[0].at
+
+    def oldest_page(self) -> str:
+        """The word of the page that the oldest line that waits came from."""
+        return self.waiting[0].page
 
     def take_answered(self) -> str | None:
         """The line that an answer is to. It waits no more."""
-        return self.waiting.popleft()[1] if self.waiting else None
+        return self.waiting.popleft().line if self.waiting else None
 
     def is_asked(self) -> bool:
         """Whether a `where` waits for its answer."""
-        return any(line == WHERE for _, line in self.waiting)
+        return any(each.line == WHERE for each in self.waiting)
 
     def is_moving(self) -> bool:
         """Whether a move waits for its answer."""
-        return any(line.split()[0] in MOVES for _, line in self.waiting)
+        return any(each.line.split()[0] in MOVES for each in self.waiting)
 
     def forget_asked(self) -> None:
         """The last `where` was answered: what was handed on before it waits no more."""
@@ -55,14 +67,14 @@ class Waiting:
 
     def has_end(self) -> bool:
         """Whether an `end` waits for its answer. Nothing is handed on behind it."""
-        return bool(self.waiting) and self.waiting[-1][1] == "end"
+        return bool(self.waiting) and self.waiting[-1].line == "end"
 
     def is_late(self) -> bool:
         """Whether a line has waited for its answer for too long."""
-        return bool(self.waiting) and time.monotonic() - self.waiting[0][0] > LATE
+        return bool(self.waiting) and time.monotonic() - self.waiting[0].at > LATE
 
-    def _wait(self, line: str) -> None:
-        self.waiting.append((time.monotonic(), line))
+    def _wait(self, line: str, page: str) -> None:
+        self.waiting.append(Given(time.monotonic(), line, page))
 
 
 class LiveInput(Waiting):
@@ -82,7 +94,7 @@ class LiveInput(Waiting):
         os.close(self.ours)
         os.close(self.back)
 
-    def give(self, line: str) -> None:
+    def give(self, line: str, page: str = "") -> None:
         """Hands on a line, or refuses it: it is never handed on later."""
         if self.stands_still():
             raise Refused("live does not answer: nothing was sent")
@@ -90,7 +102,7 @@ class LiveInput(Waiting):
             os.write(self.ours, line.encode() + b"\n")
         except (BlockingIOError, BrokenPipeError) as fault:
             raise Refused("live takes no line now: nothing was sent") from fault
-        self._wait(line)
+        self._wait(line, page)
 
     def stands_still(self) -> bool:
         """Whether `live` was seen to read nothing, and has not read since."""
@@ -104,7 +116,7 @@ class LiveInput(Waiting):
     def _is_unread_late(self) -> bool:
         """Whether the oldest line that was not read yet has waited for too long."""
         unread, oldest = self._unread(), time.monotonic()
-        for given, line in reversed(self.waiting):
+        for given, line, _ in reversed(self.waiting):
             if unread <= 0:
                 break
             unread, oldest = unread - len(line) - 1, given
@@ -120,7 +132,7 @@ class LiveInput(Waiting):
             return []
         taken: list[str] = []
         while unread:
-            _, line = self.waiting[-1]
+            line = self.waiting[-1].line
             if len(line) >= len(unread):
                 # The front of this one was read: the rest belongs to it.
                 break
@@ -141,10 +153,10 @@ class FolderInput(Waiting):
         super().__init__()
         self.folder = folder
 
-    def give(self, line: str) -> None:
+    def give(self, line: str, page: str = "") -> None:
         """Hands on a line, or refuses it: it is never handed on later."""
         self.folder.give(line)
-        self._wait(line)
+        self._wait(line, page)
 
     def is_late(self) -> bool:
         """Whether a line has waited for too long, or no `live` is there."""

@@ -18,7 +18,7 @@ from collections.abc import Callable, Sequence
 from dataclasses import dataclass
 
 from cueplayer_tools.addresses import Address, bound_socket
-from cueplayer_tools.desk_watch import Levels, Watched
+from cueplayer_tools.desk_watch import USUAL_PRIORITY, Levels, Watched
 from cueplayer_tools.program import program
 from cueplayer_tools.targets import Target, group_of, membership, targets_of
 
@@ -53,13 +53,14 @@ class Way:
     targets: Sequence[Target]
     card: str | None = None
     is_here: bool = False
+    priority: int = USUAL_PRIORITY
 
 
 class LevelReader:
     """Reads the levels of a night's universes, where they come to this machine."""
 
     def __init__(self, way: Way, cid: uuid.UUID, universes: list[int]) -> None:
-        self.watched = Watched(cid)
+        self.watched = Watched(cid, way.priority)
         self.selector = selectors.DefaultSelector()
         # The addresses of this machine's own that are listened at.
         self.here: set[Address] = set()

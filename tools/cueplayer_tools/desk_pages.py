@@ -127,7 +127,7 @@ class _OpenPage:
         levels = self.server.levels.levels
         slots = dict(levels.slots)
         changed = {at: slots[at].hex() for at in slots if slots[at] != self.slots.get(at)}
-        told = {"reasons": levels.reasons, "slots": changed, "others": levels.others}
+        told = {"reasons": levels.reasons, "slots": changed, "others": vars(levels.others)}
         self._event("levels", told)
         self.slots = slots
 

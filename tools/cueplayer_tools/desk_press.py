@@ -17,11 +17,12 @@ USUAL_DOUBLE_GO = 0.4
 
 @dataclass(frozen=True)
 class Press:
-    """A press on a page: when it was made, by `time.monotonic()`, and the number of the state
-    that the page showed then."""
+    """A press on a page: when it was made, by `time.monotonic()`, the number of the state that the
+    page showed then, and the page's own word."""
 
     at: float
     seen: int
+    page: str = ""
 
 
 class MoveGuard:

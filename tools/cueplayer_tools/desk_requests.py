@@ -26,6 +26,8 @@ MOST_CONNECTIONS = 128
 MOST_OF_ONE = 32
 MOST_AT_ONCE = 8
 HEAD_END = b"\r\n\r\n"
+# Of two of these nobody knows which counts (RFC 9112, 3.2 and 6.3).
+ONCE = ("Host", "Origin", "Content-Length")
 _FIRST_LINE = re.compile(r"([A-Z]+) (\S+) HTTP/1\.[01]\r\n", re.ASCII)
 
 
@@ -56,8 +58,8 @@ def _head_in(head: bytes) -> tuple[str, str, http.client.HTTPMessage]:
         headers = http.client.parse_headers(io.BytesIO(head[first.end() :]))
     except http.client.HTTPException as fault:
         raise Unreadable(HTTPStatus.REQUEST_HEADER_FIELDS_TOO_LARGE) from fault
-    lengths: list[str] = headers.get_all("Content-Length", [])
-    if len(lengths) > 1 or headers["Transfer-Encoding"] is not None:
+    is_doubtful = any(len(headers.get_all(name, [])) > 1 for name in ONCE)
+    if is_doubtful or headers["Transfer-Encoding"] is not None:
         raise Unreadable(HTTPStatus.BAD_REQUEST)
     return first[1], first[2], headers
 

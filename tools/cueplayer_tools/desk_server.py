@@ -5,6 +5,7 @@ events; the desk takes none that is older than `PRESS_DEADLINE`, and so its answ
 the second after which the page gives up. It says too which state it showed then.
 """
 
+import json
 import re
 import socket
 import threading
@@ -18,6 +19,7 @@ from cueplayer_tools.desk_answers import PLAIN, answer, refuse
 from cueplayer_tools.desk_doors import Door, PinDoor, Stopped, Visit, WordDoor
 from cueplayer_tools.desk_heard import HeardNight
 from cueplayer_tools.desk_levels import LevelReader
+from cueplayer_tools.desk_looks import BlindLooks
 from cueplayer_tools.desk_pages import Pages
 from cueplayer_tools.desk_pins import Role
 from cueplayer_tools.desk_press import Press
@@ -26,16 +28,22 @@ from cueplayer_tools.words import Refused, printable
 
 PAGE = Path(__file__).resolve().parent / "desk_page"
 HTML, CSS, SCRIPT = (f"text/{kind}; charset=utf-8" for kind in ("html", "css", "javascript"))
+JSON = "application/json"
+STYLES = ("base.css", "desk.css", "views.css", "sizes.css")
+SCRIPTS = (
+    *("theme.js", "press.js", "fingers.js", "said.js", "alarms.js", "times.js", "cues.js"),
+    *("find.js", "faders.js", "levels.js", "desk.js"),
+)
 FILES = {
     "": ("desk.html", HTML),
-    "desk.css": ("desk.css", CSS),
-    **{name: (name, SCRIPT) for name in ("press.js", "cues.js", "faders.js", "desk.js")},
+    **{name: (name, CSS) for name in STYLES},
+    **{name: (name, SCRIPT) for name in SCRIPTS},
 }
 # For those who have shown no PIN yet.
 PIN_FILES = {
     "": ("pin.html", HTML),
-    "desk.css": ("desk.css", CSS),
-    "pin.js": ("pin.js", SCRIPT),
+    **{name: (name, CSS) for name in ("base.css", "pin.css")},
+    **{name: (name, SCRIPT) for name in ("theme.js", "pin.js")},
 }
 # In milliseconds: how old a press may be when it comes, and by how much a browser that tells no
 # fine times may be ahead.
@@ -71,9 +79,11 @@ class DeskServer:
             "resume": self._resume,
         }
 
-    def show(self, night: HeardNight, levels: LevelReader, view: dict[str, Any]) -> None:
+    def show(
+        self, night: HeardNight, levels: LevelReader, view: dict[str, Any], looks: BlindLooks
+    ) -> None:
         """Serves a night from here on."""
-        self.night, self.levels, self.view = night, levels, view
+        self.night, self.levels, self.view, self.looks = night, levels, view, looks
         self._open(self.here, MOST_CONNECTIONS)
         if self.elsewhere is not None:
             self.elsewhere.pins.tell = self._tell_guests
@@ -113,6 +123,8 @@ class DeskServer:
                 self._take_post(connection, request, visit)
             elif visit.name == "events":
                 self.pages.open(connection, visit)
+            elif visit.name.startswith("look/"):
+                self._send_look(connection, visit.name.removeprefix("look/"))
             else:
                 self._send_file(connection, self.files, visit.name, HTTPStatus.NOT_FOUND)
         except Stopped as fault:
@@ -129,6 +141,15 @@ class DeskServer:
             raise Stopped(missing)
         content, kind = files[name]
         answer(connection, HTTPStatus.OK, content, kind)
+
+    def _send_look(self, connection: socket.socket, cue: str) -> None:
+        """The slots of a cue at full, by universe, in hexadecimal. The night does not move."""
+        look = self.looks.look(cue)
+        if look is None:
+            refuse(connection, HTTPStatus.NOT_FOUND, self.looks.reason)
+        else:
+            slots = {universe: levels.hex() for universe, levels in look.items()}
+            answer(connection, HTTPStatus.OK, json.dumps(slots).encode(), JSON)
 
     def _take_stranger(
         self, connection: socket.socket, request: Request, visit: Visit, address: str
@@ -190,12 +211,13 @@ class DeskServer:
             refuse(connection, HTTPStatus.BAD_REQUEST, told)
             return
         line = (request.body or b"").decode("latin-1")
+        page = self._page(request)
         try:
             if age > PRESS_DEADLINE:
                 raise Refused(f"pressed {age / 1000:.1f} s ago, too late: nothing was sent")
-            self.night.give(line, Press(time.monotonic() - age / 1000, seen))
+            self.night.give(line, Press(time.monotonic() - age / 1000, seen, page))
         except Refused as fault:
-            self.night.refuse(f"{printable(line, 40)}: {fault}")
+            self.night.refuse(f"{printable(line, 40)}: {fault}", page=page)
             refuse(connection, HTTPStatus.CONFLICT, str(fault))
         else:
             answer(connection, HTTPStatus.NO_CONTENT)
@@ -208,6 +230,12 @@ class DeskServer:
             return None
         age = self.now() - int(pressed)
         return age if age >= -AHEAD else None
+
+    def _page(self, request: Request) -> str:
+        """The word of the page that asks: what is refused concerns that page alone. Empty where
+        there is none."""
+        page = request.headers.get("Desk-Page", "")
+        return page if re.fullmatch(r"[0-9a-f]{1,16}", page) else ""
 
     def _state_number(self, request: Request) -> int | None:
         """The number of the state that the page showed; None where it does not say, or there was

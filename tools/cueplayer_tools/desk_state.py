@@ -15,13 +15,14 @@ NOTICES_KEPT = 20
 
 @dataclass(frozen=True)
 class Notice:
-    """Something that must not be missed, with a number of its own, and when it was told, by
-    `time.monotonic()`."""
+    """Something that was told: its number, and when, by `time.monotonic()`. Where it concerns one
+    page alone, it has that page's word."""
 
     number: int
     kind: str
     text: str
     at: float
+    page: str = ""
 
 
 @dataclass
@@ -51,6 +52,8 @@ class State:
     is_placed: bool = False
     current: int | None = None
     following: int | None = None
+    # When the current cue was come to; None where that is not known.
+    moved: int | None = None
     # When the last channel arrives; None where there was no move, or its times are not known.
     fade: Span | None = None
     # When the next cue goes by itself; None where it does not.
@@ -75,12 +78,12 @@ class State:
     is_ending: bool = False
     status: int | None = None
 
-    def tell(self, kind: str, text: str) -> None:
+    def tell(self, kind: str, text: str, page: str = "") -> None:
         if kind == "osc":
             # One of a flood must not drive out what else was told.
-            self._forget("osc")
+            self.forget("osc")
         self.told += 1
-        self.notices.append(Notice(self.told, kind, text, time.monotonic()))
+        self.notices.append(Notice(self.told, kind, text, time.monotonic(), page))
 
     def trouble(self, trouble: Trouble, line: str) -> None:
         """Takes that nodes get nothing; the line that said so first stands."""
@@ -110,7 +113,7 @@ class State:
         elif kind in MOVES:
             # What was refused before a move is behind us. A second GO of a double click, which
             # was refused behind the first, has to be seen.
-            self._forget("refused", "osc", before=given)
+            self.forget("refused", "osc", before=given)
             if len(words) == 3:
                 move = Move(moment, thousandths_of(words[0]))
                 self.timed = move, milliseconds_of(words[2])
@@ -119,6 +122,7 @@ class State:
         """Takes a move, in its own times or its cue's."""
         self.is_placed = True
         self.current, self.following = move.cue, self.show.next_cue(move.cue)
+        self.moved = move.moment
         self._follow_from(move.moment)
         if self.timed is not None and self.timed[0] == move:
             whole = self.timed[1]
@@ -136,6 +140,7 @@ class State:
     def forget_moves(self) -> None:
         """Moves may have been made that were not told."""
         self.forget_fade()
+        self.moved = None
         self._follow_from(None)
 
     def _follow_from(self, moment: int | None) -> None:
@@ -165,6 +170,7 @@ class State:
         self.grand = level
         self.lit_grand = level or self.lit_grand
 
-    def _forget(self, *kinds: str, before: float = math.inf) -> None:
+    def forget(self, *kinds: str, before: float = math.inf) -> None:
+        """Forgets what was told of these kinds."""
         kept = [each for each in self.notices if each.kind not in kinds or each.at >= before]
         self.notices = deque(kept, NOTICES_KEPT)

@@ -2,7 +2,7 @@
 
 from typing import Any
 
-from cueplayer_tools.cue_list import Record, Show
+from cueplayer_tools.cue_list import Record, Show, slot_of
 from cueplayer_tools.desk_heard import HeardNight
 from cueplayer_tools.desk_state import Span
 from cueplayer_tools.words import cue_word
@@ -29,7 +29,23 @@ def show_view(show: Show, title: str, base: int, osc: str | None) -> dict[str, A
     universes = show.universes(base)
     # A file's name may hold what turns a line round, or is no letter.
     shown = "".join(letter if letter.isprintable() else "?" for letter in title)
-    return {"title": shown, "cues": cues, "faders": faders, "universes": universes, "osc": osc}
+    return {
+        "title": shown,
+        "cues": cues,
+        "faders": faders,
+        "universes": universes,
+        "channels": _channels(show, base),
+        "osc": osc,
+    }
+
+
+def _channels(show: Show, base: int) -> list[dict[str, Any]]:
+    """The patched channels, each with its slots: the universe, the slot, and the slot's level while
+    the channel is at full."""
+    slots: dict[int, list[tuple[int, int, int]]] = {}
+    for dimmer, channel in sorted(show.patch.items()):
+        slots.setdefault(channel, []).append((*slot_of(dimmer, base), show.full[dimmer]))
+    return [{"number": channel, "dimmers": slots[channel]} for channel in sorted(slots)]
 
 
 def _spelling(cue: int | None) -> str | None:
@@ -52,18 +68,22 @@ def state_view(night: HeardNight) -> dict[str, Any]:
         "current": _spelling(state.current),
         "next": _spelling(state.following),
         "placed": state.is_placed,
+        "since": None if state.moved is None else max(now - state.moved, 0),
         "fade": _since(state.fade, now),
         "follow": _since(state.follow, now),
         "grand": state.grand,
         "lit_grand": state.lit_grand,
         "masters": dict(state.masters),
         "waiting": len(night.input.waiting),
-        "lost": dict(vars(state.lost)),
+        "lost": {**vars(state.lost), "ago": max(now - state.lost.moment, 0)},
         "skipped": state.skipped,
         "ways": list(state.ways),
-        "troubles": list(state.troubles.values()),
+        "troubles": [
+            {"kind": each.kind, "text": line} for each, line in state.troubles.items()
+        ],
         "notices": [
-            {"number": each.number, "kind": each.kind, "text": each.text} for each in state.notices
+            {"number": each.number, "kind": each.kind, "text": each.text, "page": each.page}
+            for each in state.notices
         ],
         "late": state.is_late,
         "ending": state.is_ending,

@@ -4,12 +4,14 @@ shows them, and the sources on it."""
 import re
 import threading
 import uuid
+from collections.abc import Iterable
 from dataclasses import dataclass, field
 
 from cueplayer_tools.words import printable
 
 SLOTS = 512
-# Other sources that are named; of these the rest are counted.
+USUAL_PRIORITY = 100
+# So many other sources are named; the rest are counted.
 MOST_NAMED = 8
 # Where more sources came than are told apart, that is told for so many milliseconds.
 CROWDED = 2_500
@@ -35,13 +37,24 @@ class Source:
         return f"{self.name}, priority {self.priority}, universe{plural} {universes}"
 
 
+@dataclass(frozen=True)
+class Others:
+    """The other sources in words, by their priority beside our own; and the universes on which
+    there are more than are told apart."""
+
+    above: tuple[str, ...] = ()
+    beside: tuple[str, ...] = ()
+    below: tuple[str, ...] = ()
+    crowded: tuple[int, ...] = ()
+
+
 @dataclass
 class Levels:
     """The slots of each universe, why those of others are not received, and other sources."""
 
     reasons: dict[int, str] = field(default_factory=dict)
     slots: dict[int, bytes] = field(default_factory=dict)
-    others: list[str] = field(default_factory=list)
+    others: Others = Others()
     version: int = 0
 
 
@@ -56,12 +69,21 @@ def _slots(text: str) -> bytes:
     return bytes(slots)
 
 
+def _names(sources: Iterable[Source]) -> tuple[str, ...]:
+    names = sorted(map(str, sources))
+    more = len(names) - MOST_NAMED
+    if more > 0:
+        names[MOST_NAMED:] = [f"and {more} more"]
+    return tuple(names)
+
+
 class Watched:
     """What was printed so far."""
 
-    def __init__(self, cid: uuid.UUID) -> None:
-        """The source of this CID is our own."""
+    def __init__(self, cid: uuid.UUID, priority: int = USUAL_PRIORITY) -> None:
+        """The source of this CID is our own, and sends at this priority."""
         self.cid = str(cid)
+        self.priority = priority
         self.levels = Levels()
         self.sources: dict[str, Source] = {}
         self.crowded: dict[int, int] = {}
@@ -122,13 +144,15 @@ class Watched:
             del self.sources[cid]
 
     def _name_others(self) -> bool:
-        named = sorted(map(str, self.sources.values()))
-        more = len(named) - MOST_NAMED
-        if more > 0:
-            named[MOST_NAMED:] = [f"and {more} more"]
-        named += [f"more than are told apart, universe {at}" for at in sorted(self.crowded)]
-        if named == self.levels.others:
+        sources, ours = self.sources.values(), self.priority
+        others = Others(
+            above=_names(each for each in sources if each.priority > ours),
+            beside=_names(each for each in sources if each.priority == ours),
+            below=_names(each for each in sources if each.priority < ours),
+            crowded=tuple(sorted(self.crowded)),
+        )
+        if others == self.levels.others:
             return False
-        self.levels.others = named
+        self.levels.others = others
         self.levels.version += 1
         return True

@@ -1,26 +1,8 @@
 "use strict";
-// The cue list: a tap selects a cue, and a second control goes there, or a second tap where the
-// operator wants that.
+// The cue list: a tap selects a cue and shows its look, blind; a second control goes there, or a
+// second tap where the operator wants that. And what was on, what is on, and what is next.
 
 const DOUBLE_TAP = 500;
-
-function seconds(milliseconds) {
-  const whole = Math.floor(milliseconds / 60000);
-  const rest = (milliseconds % 60000) / 1000;
-  if (whole === 0) return `${Number(rest.toFixed(2))} s`;
-  return `${whole}:${String(Number(rest.toFixed(2))).padStart(2, "0")}`;
-}
-
-const tenths = (milliseconds) => `${(milliseconds / 1000).toFixed(1)} s`;
-
-function rate({ time, delay }) {
-  return delay ? `${seconds(time)} after ${seconds(delay)}` : seconds(time);
-}
-
-function timesOf(cue) {
-  const isOne = cue.up.time === cue.down.time && cue.up.delay === cue.down.delay;
-  return isOne ? `up and down ${rate(cue.up)}` : `up ${rate(cue.up)}, down ${rate(cue.down)}`;
-}
 
 function cueWords(number) {
   if (!page.state.placed) return "not known yet";
@@ -34,7 +16,8 @@ function cueButton(cue, following) {
   button.tabIndex = -1;
   const follow = cue.follow === null || !following
     ? "" : `${following.number} follows after ${seconds(cue.follow)}`;
-  const parts = { number: cue.number, name: cue.name, times: timesOf(cue), follow };
+  const parts = { number: cue.number, name: cue.name, times: signsOf(cue),
+    follow: follow ? `→ ${following.number} after ${seconds(cue.follow)}` : "" };
   for (const [kind, words] of Object.entries(parts)) {
     const part = document.createElement("span");
     part.className = kind;
@@ -59,6 +42,8 @@ function buildCues(cues) {
   });
   byId("cues").replaceChildren(...rows);
   if (rows.length) rows[0].firstChild.tabIndex = 0;
+  page.order = cues.map(({ number }) => number);
+  buildPad();
   selectCue(null);
 }
 
@@ -70,7 +55,8 @@ function selectCue(number) {
   const chosen = page.cues.get(number);
   byId("goto").setAttribute("aria-disabled", String(chosen === undefined));
   const words = chosen ? `${number} ${chosen.name}`.trim() : "";
-  byId("goto").textContent = chosen ? `Go to ${words}` : "Go to: select a cue";
+  byId("goto").textContent = chosen ? `Go to ${words}` : "Go to: tap a cue";
+  if (!chosen) leaveBlind();
 }
 
 function tapCue(number, event) {
@@ -81,6 +67,9 @@ function tapCue(number, event) {
     goTo(number, event.shiftKey, event.timeStamp);
   } else {
     selectCue(number);
+    // A second tap must find its row, so the look waits until there can be none.
+    const wait = doubleTapGoes() ? DOUBLE_TAP : 0;
+    setTimeout(() => { if (page.selected === number) showBlind(number); }, wait);
   }
 }
 
@@ -88,12 +77,14 @@ function goTo(number, isAtOnce, pressed) {
   if (number === null || isDead()) return;
   command(isAtOnce ? `goto ${number} in 0` : `goto ${number}`, pressed);
   selectCue(null);
+  if (isFinding()) openFinder(false);
 }
 
 const doubleTapGoes = () => savedValue("double-tap") === "goes";
 
 function moveInCues(event) {
-  const buttons = [...page.cues.values()].map((cue) => cue.button);
+  const buttons = [...page.cues.values()].map((cue) => cue.button)
+    .filter((button) => !button.parentNode.hidden);
   const at = buttons.indexOf(document.activeElement);
   const last = buttons.length - 1;
   const to = {
@@ -113,15 +104,36 @@ function focusable(buttons, chosen) {
 }
 
 function showCues(state, before) {
+  const at = page.order.indexOf(state.current);
+  setText("last", at > 0 ? cueWords(page.order[at - 1]) : "none");
   setText("current", cueWords(state.current));
   setText("next", cueWords(state.next));
+  const next = page.cues.get(state.next);
+  setText("next-times", next ? signsOf(next) : "");
+  setText("go-to", next ? state.next : state.placed ? "no cue follows" : "");
+  byId("go").classList.toggle("is-last", state.placed && state.next === null);
   document.title = state.current === null ? byId("title").textContent : cueWords(state.current);
   for (const [number, cue] of page.cues) {
     if (number === state.current) cue.button.setAttribute("aria-current", "true");
     else cue.button.removeAttribute("aria-current");
     cue.button.classList.toggle("is-next", number === state.next);
   }
-  if (before?.current !== state.current || before?.next !== state.next) scrollCues(state);
+  if (before?.current !== state.current || before?.next !== state.next) {
+    if (!isFinding()) scrollCues(state);
+    fitNow();
+  }
+}
+
+// Long labels are said whole: the letters give way, until all has room. Where even the smallest
+// have none, what is on is cut, and never what is next.
+function fitNow() {
+  const now = byId("now");
+  now.classList.remove("is-full");
+  for (const fit of [1, 0.9, 0.8, 0.72, 0.64, 0.57, 0.5, 0.44]) {
+    now.style.setProperty("--fit", fit);
+    if (now.scrollHeight <= now.clientHeight && now.scrollWidth <= now.clientWidth) return;
+  }
+  now.classList.add("is-full");
 }
 
 // The current cue stands near the top of the list, so that the tail of the list is seen. One cue
@@ -137,27 +149,4 @@ function scrollCues(state) {
   const shown = page.cues.get(state.next ?? state.current)?.button;
   const buttons = [...page.cues.values()].map((cue) => cue.button);
   if (shown && !buttons.includes(document.activeElement)) focusable(buttons, shown);
-}
-
-// How much of a time is left; null where that is not known.
-function restOf(span) {
-  if (!span || span.elapsed === null) return null;
-  return Math.max(span.whole - span.elapsed - (performance.now() - page.stateAt), 0);
-}
-
-function showFade() {
-  const fade = page.state?.fade ?? null;
-  const rest = restOf(fade);
-  const isRunning = rest !== null && rest > 0;
-  byId("fade").value = !fade ? 0 : isRunning ? 1 - rest / fade.whole : 1;
-  const isUnknown = !fade && Boolean(page.state?.current);
-  setText("fade-text", isUnknown ? "not known" : isRunning ? `${tenths(rest)} left` : "");
-}
-
-function showFollow() {
-  const follow = page.state?.follow ?? null;
-  const rest = restOf(follow);
-  const next = page.state?.next;
-  const when = rest === null ? "by itself" : `by itself in ${tenths(rest)}`;
-  setText("follow", follow && next ? `Cue ${next} follows ${when}` : "");
 }

@@ -6,147 +6,6 @@
 const MOST_PAGES = 4;
 const PLACE_EVERY = 1000;
 const AGAIN_EVERY = 2000;
-const MOST_NOTICES = 3;
-
-// ---- what is kept in this browser
-
-function savedValue(name) {
-  try {
-    return localStorage.getItem(name);
-  } catch {
-    return null;
-  }
-}
-
-function keep(name, value) {
-  try {
-    localStorage.setItem(name, value);
-  } catch {
-    // It counts until the page is closed.
-  }
-}
-
-// ---- what must not be missed
-
-function alarm(words, button, act) {
-  const row = document.createElement("div");
-  row.className = "alarm";
-  const text = document.createElement("span");
-  text.textContent = words;
-  row.append(text);
-  if (button) {
-    const control = document.createElement("button");
-    control.type = "button";
-    control.textContent = button;
-    control.setAttribute("aria-label", `${button}: ${words}`);
-    control.addEventListener("click", () => { act(); showAlarms(); });
-    row.append(control);
-  }
-  return row;
-}
-
-function pageAlarms() {
-  const told = [];
-  if (page.isCrowded) {
-    const words = `${MOST_PAGES} pages of this browser show the desk`;
-    told.push([`${words}: close one, and this one goes on`]);
-  }
-  if (page.heard && isSilent()) told.push(["No word from the desk: what is shown here is old"]);
-  if (page.unsent) told.push([page.unsent, "Dismiss", () => { page.unsent = ""; }]);
-  return told;
-}
-
-function endAlarms(state) {
-  const told = [];
-  const resume = state.resumes && page.role === "play"
-    ? ["Take it up where it was", () => ask("resume")] : [];
-  if (state.status !== null) {
-    told.push([`The night has ended: live ended with status ${state.status}`, ...resume]);
-  } else if (state.resumes) {
-    told.push(["No live plays the night, and nobody starts one", ...resume]);
-  } else if (state.ending) {
-    told.push(["The night is ending: receivers are told"]);
-  }
-  if (state.late && state.status === null) told.push(["live does not answer"]);
-  return told;
-}
-
-// What is wrong on the network stands there until it is over.
-function networkAlarms(state) {
-  const told = state.status === null ? state.troubles.map((trouble) => [trouble]) : [];
-  if (page.others.length) {
-    const sends = page.others.length > 1 ? "Other sources send" : "Another source sends";
-    told.push([`${sends} on this night's universes: ${page.others.join("; ")}`]);
-  }
-  const { count, universe, moment } = state.lost;
-  if (count > page.dismissedLost) {
-    const latest = `of universe ${universe} at ${tenths(moment)}`;
-    const words = `${count} packets lost, the latest ${latest}`;
-    told.push([words, "Dismiss", () => { page.dismissedLost = count; }]);
-  }
-  return told;
-}
-
-function alarms() {
-  const { state } = page;
-  if (state === null) return pageAlarms();
-  const notices = state.notices
-    .filter(({ number }) => number > page.dismissed)
-    .slice(-MOST_NOTICES)
-    .map(({ text, number }) => [text, "Dismiss", () => { page.dismissed = number; }]);
-  return [...pageAlarms(), ...endAlarms(state), ...networkAlarms(state), ...notices];
-}
-
-function showAlarms() {
-  document.body.classList.toggle("is-dead", isDead());
-  for (const id of ["go", "back", "blackout"]) {
-    byId(id).setAttribute("aria-disabled", String(isDead() || page.role !== "play"));
-  }
-  const told = alarms();
-  const words = JSON.stringify(told.map(([text, button]) => [text, button]));
-  // A screen reader says what is new, so nothing is put there anew that stands there already.
-  if (words === page.alarmsShown) return;
-  page.alarmsShown = words;
-  byId("alarms").replaceChildren(...told.map((each) => alarm(...each)));
-}
-
-// ---- levels
-
-function buildGrid() {
-  const cells = Array.from({ length: 512 }, () => document.createElement("div"));
-  byId("grid").replaceChildren(...cells);
-}
-
-function showLevels() {
-  const universe = page.universes[page.universe];
-  const slots = page.slots.get(universe);
-  byId("grid").hidden = slots === undefined;
-  setText("universe", `Universe ${universe ?? "none"}`);
-  if (slots === undefined) {
-    const reason = page.reasons[universe];
-    const why = reason ? `: ${reason}` : "";
-    setText("lit", `levels are not received here${why}`);
-    return;
-  }
-  let lit = 0;
-  byId("grid").childNodes.forEach((cell, at) => {
-    const level = parseInt(slots.slice(2 * at, 2 * at + 2), 16);
-    lit += level > 0;
-    const words = `${at + 1}\n${level}`;
-    if (cell.dataset.words === words) return;
-    cell.dataset.words = words;
-    cell.replaceChildren(String(at + 1), document.createElement("br"), String(level));
-    cell.classList.toggle("is-lit", level > 0);
-    cell.style.setProperty("--share", `${level * 50 / 255}%`);
-  });
-  setText("lit", `${lit} slots lit`);
-}
-
-function chooseUniverse(step) {
-  const last = Math.max(page.universes.length - 1, 0);
-  page.universe = Math.min(Math.max(page.universe + step, 0), last);
-  showLevels();
-}
 
 // ---- who may come from elsewhere
 
@@ -183,13 +42,29 @@ function markPressed(buttons, chosen) {
 
 function showView(view) {
   document.body.dataset.view = view;
+  // Who looks for a cue does so in Play: digits are keys again elsewhere.
+  if (view !== "play" && isFinding()) openFinder(false);
   const buttons = document.querySelectorAll("[data-to]");
   markPressed(buttons, [...buttons].find((button) => button.dataset.to === view));
   if (page.state !== null) scrollCues(page.state);
+  fitNow();
+}
+
+function showHand(hand) {
+  document.body.dataset.hand = hand;
+  const buttons = document.querySelectorAll("[data-hand-is]");
+  markPressed(buttons, [...buttons].find((button) => button.dataset.handIs === hand));
+}
+
+function showSwitches() {
+  for (const id of ["click", "buzz"]) {
+    byId(id).setAttribute("aria-pressed", String(savedValue(id) === "on"));
+  }
+  byId("buzz").hidden = !navigator.vibrate;
 }
 
 function showTheme(theme) {
-  document.documentElement.dataset.theme = theme;
+  setTheme(theme);
   const buttons = document.querySelectorAll("[data-theme-is]");
   markPressed(buttons, [...buttons].find((button) => button.dataset.themeIs === theme));
 }
@@ -206,12 +81,20 @@ function showState(state) {
   page.shown.push({ at: page.stateAt, number: state.number });
   showCues(state, before);
   for (const fader of page.faders) fader.show();
-  byId("blackout").setAttribute("aria-pressed", String(state.grand === 0));
-  const lost = byId("lost");
-  setText("lost", `${state.lost.count} packets lost`);
-  lost.classList.toggle("is-some", state.lost.count > 0);
+  const isDark = state.grand === 0;
+  document.body.classList.toggle("is-dark", isDark);
+  byId("blackout").setAttribute("aria-pressed", String(isDark));
+  // No line breaks between the last two words.
+  setText("blackout-word", isDark ? "BLACKOUT IS\u00a0ON" : "BLACKOUT");
+  for (const id of ["on-word", "blackout-more"]) byId(id).hidden = !isDark;
+  const { count, universe, moment } = state.lost;
+  const latest = `, the latest of universe ${universe} at ${watchTime(moment)}`;
+  setText("lost", `${count} packets could not be sent${count ? latest : ""}`);
+  hearNotices(state.notices);
+  showRest();
   setText("skipped", state.skipped);
   setText("ways", state.ways.join("; "));
+  showButtons();
   showFade();
   showFollow();
   showAlarms();
@@ -223,18 +106,30 @@ function linkWords() {
   return isSilent() ? "No word from the desk" : "Connected";
 }
 
+function showButtons() {
+  document.body.classList.toggle("is-dead", isDead());
+  for (const id of ["go", "back", "blackout", "end"]) {
+    byId(id).setAttribute("aria-disabled", String(!canPress()));
+  }
+}
+
 function watch() {
   setText("link", linkWords());
+  showButtons();
   showFade();
   showFollow();
+  showWatches();
   showAlarms();
+  fadeSaid();
 }
 
 function showShow(show) {
   page.state = null;
   page.shown = [];
   page.role = show.role;
+  page.isHere = show.here;
   page.universes = show.universes;
+  page.channels = show.channels;
   document.body.classList.toggle("is-watching", show.role !== "play");
   setText("role", show.role === "play" ? "" : "Watching: nothing here moves light");
   setText("title", show.title);
@@ -246,8 +141,7 @@ function showShow(show) {
 }
 
 function showReceived({ reasons, slots, others }) {
-  page.reasons = reasons;
-  page.others = others;
+  Object.assign(page, { reasons, others });
   for (const [universe, hex] of Object.entries(slots)) page.slots.set(Number(universe), hex);
   showLevels();
 }
@@ -303,6 +197,27 @@ function takePlace(at) {
   }).catch(listen);
 }
 
+// ---- a screen that stays on
+
+const SLEEPS = "This page cannot keep the screen on: browsers let only encrypted pages do that "
+  + "(--certificate). Set the tablet so that it does not sleep, and plug it in. iPad: Settings, "
+  + "Display & Brightness, Auto-Lock, Never. Android: Settings, Display, Screen timeout, the "
+  + "longest; or Stay awake, in the developer options.";
+
+async function stayAwake() {
+  if (document.visibilityState !== "visible") return;
+  let isAwake = false;
+  try {
+    const lock = await navigator.wakeLock.request("screen");
+    isAwake = true;
+    lock.addEventListener("release", () => stayAwake());
+  } catch {
+    // An address without encryption, a browser without it, or a battery that is low.
+  }
+  setText("awake", isAwake ? "The screen stays on while this page is seen." : SLEEPS);
+  byId("sleep").hidden = isAwake || !matchMedia("(pointer: coarse)").matches;
+}
+
 // ---- the controls
 
 function onClick(selector, act) {
@@ -311,9 +226,39 @@ function onClick(selector, act) {
   }
 }
 
-onClick("#go", (event) => command("go", event.timeStamp));
-onClick("#back", (event) => command("back", event.timeStamp));
-onClick("#blackout", blackout);
+onTap(byId("go"), (event) => command("go", event.timeStamp));
+onTap(byId("back"), (event) => command("back", event.timeStamp));
+new Hold(byId("blackout"), LONG_PRESS, "BLACKOUT: hold it until the ring is full", blackout);
+new Hold(byId("end"), END_PRESS, "End the night: hold it until the ring is full",
+  (at) => command("end", at));
+watchFingers(byId("dock"));
+onClick("#worst-open", () => openList(!isListOpen()));
+onClick("#worst-act", (event, button) => act(button.dataset.key));
+onClick("#find", () => openFinder(!isFinding()));
+onClick("#leave", () => {
+  if (blindCue !== null) selectCue(null);
+  else openFinder(false);
+});
+onClick("#to-on", () => {
+  if (isFinding()) openFinder(false);
+  selectCue(null);
+  if (page.state !== null) scrollCues(page.state);
+});
+onClick("button[data-shows]", (event, button) => chooseLevels(button.dataset.shows));
+onClick("#only-lit", (event, button) => {
+  button.setAttribute("aria-pressed", String(!isLitOnly()));
+  showLevels();
+});
+onClick("[data-hand-is]", (event, button) => {
+  keep("hand", button.dataset.handIs);
+  showHand(button.dataset.handIs);
+});
+onClick("#click, #buzz", (event, button) => {
+  keep(button.id, savedValue(button.id) === "on" ? "off" : "on");
+  showSwitches();
+  feel();
+});
+onClick("#sleep", () => showView("more"));
 onClick("#before", () => chooseUniverse(-1));
 onClick("#after", () => chooseUniverse(1));
 onClick("[data-to]", (event, button) => showView(button.dataset.to));
@@ -330,16 +275,26 @@ onPress(
   (event) => goTo(page.selected, event.shiftKey, event.timeStamp),
   (at) => goTo(page.selected, true, at),
 );
-askTwice("end", "Press once more: the light goes out", (event) => command("end", event.timeStamp));
 askTwice("new-pins", "Press once more: all others are sent out", () => ask("pins"));
 byId("cues").addEventListener("keydown", moveInCues);
+byId("find-text").addEventListener("input", (event) => find(event.target.value));
+byId("find-text").addEventListener("keydown", enterInFinder);
 document.addEventListener("keydown", pressKey);
 document.addEventListener("keyup", pressKey);
+document.addEventListener("keydown", findKey);
 // A tablet that is turned shows the current cue too.
-window.addEventListener("resize", () => { if (page.state !== null) scrollCues(page.state); });
+window.addEventListener("resize", () => {
+  if (page.state !== null && !isFinding()) scrollCues(page.state);
+  fitNow();
+});
 buildGrid();
-showTheme(savedValue("theme") ?? "auto");
+chooseLevels("channels");
+showTheme(savedValue("theme") ?? "dark");
+showHand(savedValue("hand") ?? "right");
+showSwitches();
 showDoubleTap();
+document.addEventListener("visibilitychange", stayAwake);
+stayAwake();
 // Only this machine's own addresses, and encrypted pages, have locks.
 if (navigator.locks) takePlace(1);
 else listen();

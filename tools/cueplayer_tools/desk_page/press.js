@@ -9,9 +9,6 @@ const STATES_KEPT = 5000;
 const PRESS_DEADLINE = 1000;
 // Clocks run apart, so what was heard of the desk's is not kept for long.
 const CLOCK_KEPT = 30000;
-const SECOND_PRESS = 3000;
-// A button that is held for so long is meant.
-const LONG_PRESS = 600;
 
 const byId = (id) => document.getElementById(id);
 
@@ -27,36 +24,38 @@ const page = {
   // The numbers of the states that were shown lately, and when.
   shown: [],
   isGone: false,
-  dismissed: 0,
-  dismissedLost: 0,
-  unsent: "",
-  alarmsShown: "",
+  // A word of this page's own, by which the desk says whom a refusal concerns.
+  word: [...crypto.getRandomValues(new Uint32Array(2))]
+    .map((half) => half.toString(16).padStart(8, "0")).join(""),
+  // Whether this is a page of the machine that sends.
+  isHere: true,
   universes: [],
   universe: 0,
   slots: new Map(),
+  channels: [],
   reasons: {},
-  others: [],
+  others: { above: [], beside: [], below: [], crowded: [] },
   clock: [],
   isCrowded: false,
 };
 
 async function command(line, pressed) {
-  if (isDead() || page.role !== "play") return;
+  if (!canPress()) return;
   const at = Math.min(pressed, performance.now());
   const left = at + PRESS_DEADLINE - performance.now();
   const stop = new AbortController();
   const timer = setTimeout(() => stop.abort(), left);
   try {
     if (left <= 0) stop.abort();
-    const headers = { "Desk-Time": String(deskTime(at)), "Desk-State": String(seenAt(at)) };
+    const headers = { "Desk-Time": String(deskTime(at)), "Desk-State": String(seenAt(at)),
+      "Desk-Page": page.word };
     const request = { method: "POST", body: line, headers, signal: stop.signal };
     const answer = await fetch("command", request);
-    page.unsent = answer.ok || answer.status === 409 ? "" : `${line}: not taken by the desk`;
+    if (!answer.ok && answer.status !== 409) say(`${line}: not taken by the desk`);
   } catch {
-    page.unsent = `${line}: nothing was sent: ${whyUnsent(left, stop.signal.aborted)}`;
+    say(`${line}: nothing was sent: ${whyUnsent(left, stop.signal.aborted)}`);
   }
   clearTimeout(timer);
-  showAlarms();
 }
 
 function whyUnsent(left, isAborted) {
@@ -68,11 +67,10 @@ function whyUnsent(left, isAborted) {
 async function ask(name) {
   try {
     const answer = await fetch(name, { method: "POST", body: "now" });
-    page.unsent = answer.ok ? "" : `${name}: not taken by the desk`;
+    if (!answer.ok) say(`${name}: not taken by the desk`);
   } catch {
-    page.unsent = `${name}: the desk was not reached`;
+    say(`${name}: the desk was not reached`);
   }
-  showAlarms();
 }
 
 // The desk says its time with each event. One that took long to come says too little, so of
@@ -101,62 +99,13 @@ function isDead() {
   return isSilent() || page.state === null || page.state.status !== null;
 }
 
-function blackout(event) {
-  if (isDead()) return;
+// Whether a press on this page may do something now.
+function canPress() {
+  return !isDead() && page.role === "play";
+}
+
+function blackout(pressed) {
+  if (!canPress()) return;
   const level = page.state.grand === 0 ? page.state.lit_grand : 0;
-  command(`master H${level.toString(16).padStart(2, "0")}`, event.timeStamp);
-}
-
-// What cannot be undone is not done by one slip of a finger.
-function askTwice(id, words, carryOut) {
-  const button = byId(id);
-  const usual = button.textContent;
-  button.addEventListener("click", (event) => {
-    if (button.dataset.asked) {
-      carryOut(event);
-      return;
-    }
-    button.dataset.asked = "yes";
-    button.textContent = words;
-    setTimeout(() => {
-      delete button.dataset.asked;
-      button.textContent = usual;
-    }, SECOND_PRESS);
-  });
-}
-
-function pressKey(event) {
-  if (event.ctrlKey || event.altKey || event.metaKey) return;
-  const line = { " ": "go", Backspace: "back" }[event.key];
-  if (line === undefined) return;
-  event.preventDefault();
-  if (event.type === "keydown" && !event.repeat) command(line, event.timeStamp);
-}
-
-// Calls `short` at a click, and `long` once the button was held: then no click follows.
-function onPress(button, short, long) {
-  let timer = 0;
-  let wasLong = false;
-  const leave = () => {
-    clearTimeout(timer);
-    button.classList.remove("is-held");
-  };
-  button.addEventListener("pointerdown", (event) => {
-    wasLong = false;
-    button.classList.add("is-held");
-    timer = setTimeout(() => {
-      wasLong = true;
-      leave();
-      long(event.timeStamp + LONG_PRESS);
-    }, LONG_PRESS);
-  });
-  for (const left of ["pointerup", "pointercancel", "pointerleave"]) {
-    button.addEventListener(left, leave);
-  }
-  button.addEventListener("contextmenu", (event) => event.preventDefault());
-  button.addEventListener("click", (event) => {
-    // A click by a key has no count: it is short, whatever the last press was.
-    if (!wasLong || event.detail === 0) short(event);
-    wasLong = false;
-  });
+  command(`master H${level.toString(16).padStart(2, "0")}`, pressed);
 }
