@@ -58,7 +58,8 @@ class Page:
         self.connection.request("GET", self.path + "events", headers=kept)
         self.answer = self.connection.getresponse()
         self.newest = {}
-        # By how much the desk's clock is ahead of this one's, in milliseconds.
+        # By how much the desk's clock is ahead of this one's, in milliseconds. An event that took
+        # long to come says too little, so the greatest counts.
         self.ahead = None
         self.reader = threading.Thread(target=self._read, daemon=True)
         self.reader.start()
@@ -72,7 +73,8 @@ class Page:
             for line in self.answer:
                 name, _, rest = line.decode().rstrip("\n").partition(": ")
                 if name == "id":
-                    self.ahead = int(rest) - round(time.monotonic() * 1000)
+                    ahead = int(rest) - round(time.monotonic() * 1000)
+                    self.ahead = ahead if self.ahead is None else max(self.ahead, ahead)
                 elif name == "event":
                     kind = rest
                 elif name == "data" and rest.endswith("}"):
