@@ -77,6 +77,7 @@ IN_THE_PROGRAM = {
     "first_bytes": "test_refused_growths.RefusedGrowths.test_check",
     "open": "test_refused_growths.RefusedGrowths.test_play",
     "read_words": "test_refused_growths.RefusedGrowths.test_words",
+    "read_or_explain": "test_refused_growths.RefusedGrowths.test_words",
     "lock_path": "test_refused_growths.RefusedGrowths.test_live",
     "take_cid_lock": "test_refused_growths.RefusedGrowths.test_live",
     "check_targets": "test_refused_growths.RefusedGrowths.test_targets",

@@ -7,8 +7,8 @@ use Rattle.cmd_words.specs.Job.{IsJobInRange, has_flag, live_of, live_with, nigh
 use Rattle.cmd_words.specs.Job.{follows_of, patience_of, resumes_of, spare_of, start_cue}
 use Rattle.cmd_words.specs.Misfit.{Unfit as UnfitArgument, first_misfit, misfit_at, misfit_in}
 use Rattle.cmd_words.specs.Asked.{AnswersWords}
-use Rattle.cmd_words.specs.declared.job.WordsFault.{WordsFault}
-use Rattle.cmd_words.specs.declared.job.WordsFault.TheVariants.{Refused, Unfit, Memory}
+use Rattle.cmd_words.specs.declared.fault.Unread.{Unread}
+use Rattle.cmd_words.specs.declared.fault.Unread.TheVariants.{Refused, Unfit, Memory}
 
 -- the first misfit stays the first where more arguments follow
 first_of_more : (rules more : List Rule) (rows : List Row) (x : UnfitArgument)
@@ -29,7 +29,7 @@ behind_night = option (codes "record") ∷ flag (codes "resume") ∷ flag (codes
     ∷ option (codes "start") ∷ option (codes "follow") ∷ option (codes "patience")
     ∷ flag (codes "end-with-input") ∷ []
 
-pub night_refused : (rows : List Row) (fault : WordsFault)
+pub night_refused : (rows : List Row) (fault : Unread)
     → AnswersWords (λ night. night.priority ≤ 200) (night_of rows)
     (first_misfit night_arguments rows)
     (Err fault)

@@ -20,10 +20,10 @@ use Rattle.cmd_words.specs.Program.{program}
 use Rattle.cmd_words.specs.Job.{IsJobInRange, job_of_line}
 use Rattle.cmd_words.proofs.Given.{passing_line}
 use Rattle.cmd_words.specs.Misfit.{IsWhole, is_line, misfit_in}
-use Rattle.cmd_words.specs.Asked.{AnswersWords, ExplainsWords, IsAsked, Passes, RefusedBy}
+use Rattle.cmd_words.specs.Asked.{AnswersWords, ExplainsUnread, IsAsked, Passes, RefusedBy}
 use Rattle.cmd_words.specs.declared.job.Job.{Job}
-use Rattle.cmd_words.specs.declared.job.WordsFault.{WordsFault}
-use Rattle.cmd_words.specs.declared.job.WordsFault.TheVariants.{Refused, Unfit, Memory}
+use Rattle.cmd_words.specs.declared.fault.Unread.{Unread}
+use Rattle.cmd_words.specs.declared.fault.Unread.TheVariants.{Refused, Unfit, Memory}
 
 program_is_simple : is_simple program ≡ true
 unfolding clap_on_literals
@@ -64,10 +64,10 @@ whole_line words line passes is =
     subst IsWhole (ap (λ o. unwrap_or o line) (sym found.1 ∙ is)) found.2
 
 -- what a reading of the line answers is what the words ask for
-pub answered : (words : List Text) (line : Text × List Row) (r : Result Job WordsFault)
+pub answered : (words : List Text) (line : Text × List Row) (r : Result Job Unread)
     → Passes words → subcommand_of program words ≡ Some line
     → AnswersWords IsJobInRange (job_of_line line) (misfit_in line) r
-    → IfOk r (IsAsked words) × IfErr r (ExplainsWords words)
+    → IfOk r (IsAsked words) × IfErr r (ExplainsUnread words)
 answered words line (Ok job) passes is read =
     ((passes, ap (option_and_then job_of_line) is ∙ read.0), tt)
 answered words line (Err (Refused error)) passes is read = absurd read
@@ -115,10 +115,10 @@ among error words ample (inl is) = absurd (ample is)
 among error words ample (inr is) = is
 
 -- an error of the parse explains the fault that it becomes
-pub explained : (a : App) (words : List Text) (error : Error) (fault : WordsFault) → a ≡ program
+pub explained : (a : App) (words : List Text) (error : Error) (fault : Unread) → a ≡ program
     → (takes a words ≡ true → kind_of error ≡ OutOfMemory)
     → (is_simple_and_free a ≡ true → HasKind (fault_of a words) error)
-    → RefusedBy error fault → ExplainsWords words fault
+    → RefusedBy error fault → ExplainsUnread words fault
 explained a words error (Refused e) is passes kinds by =
     let kind : HasKind (fault_of program words) error =
     subst (λ (p : App). HasKind (fault_of p words) error) is

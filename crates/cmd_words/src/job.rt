@@ -1,13 +1,10 @@
 ghost use Rattle.std.specs.Prelude.{◌≡◌, ℕ, List, IfOk};
 ghost use Rattle.std.specs.String.{string_bytes};
-ghost use Rattle.cmd_words.specs.declared.job.WordsFault.TheVariants.{Unfit, Memory};
 
-use crate::misfit::Misfit;
 use crate::universe_list::UniverseList;
 use std::alloc::{AllocError, Global};
 use std::marker::Model;
 use targets::Targets;
-use thiserror::Error;
 
 /// A name as the words gave it: of a file, a network card or a source. Contracts see its bytes.
 #[derive(Debug, Drop)]
@@ -155,37 +152,4 @@ pub enum Job {
     Watch {
         universes: UniverseList,
     },
-}
-
-/// Why words give no job.
-#[derive(Debug, Drop, Error)]
-pub enum WordsFault<'a> {
-    /// No line takes the words, or they ask for help. The error has the text for the user; its kind
-    /// says whether that goes to standard output, as help does, and how the program ends.
-    #[error(transparent)]
-    Refused(clap::Error),
-
-    /// A line takes the words, and this argument, the first in the line's order, lacks its form.
-    #[error(transparent)]
-    Unfit(Misfit<'a>),
-
-    /// An allocation failed.
-    #[error("memory")]
-    Memory,
-}
-
-impl<'a> From<Misfit<'a>> for WordsFault<'a> {
-    ghost from_gives = { λ misfit fault. fault ≡ Unfit misfit };
-
-    fn from(misfit: Misfit<'a>) -> WordsFault<'a> {
-        WordsFault::Unfit(misfit)
-    }
-}
-
-impl<'a> From<AllocError> for WordsFault<'a> {
-    ghost from_gives = { λ _ fault. fault ≡ Memory };
-
-    fn from(_error: AllocError) -> WordsFault<'a> {
-        WordsFault::Memory
-    }
 }

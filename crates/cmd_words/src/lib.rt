@@ -11,6 +11,7 @@
 
 mod address;
 mod arguments;
+mod fault;
 mod job;
 mod line;
 mod misfit;
@@ -21,8 +22,9 @@ mod source;
 mod target;
 mod universe_list;
 
-pub use job::{Job, Name, Night, WordsFault};
+pub use fault::{Unread, WordsFault};
+pub use job::{Job, Name, Night};
 pub use misfit::{Form, Misfit};
-pub use read::read_words;
+pub use read::{read_or_explain, read_words};
 pub use source::{name_on, source_name};
 pub use universe_list::UniverseList;

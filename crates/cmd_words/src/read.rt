@@ -8,14 +8,15 @@ ghost use Rattle.cmd_words.specs.Job.{look_of, slots_of, night_of, play_of};
 ghost use Rattle.cmd_words.specs.Job.{live_of, rehearse_of, listen_of, watch_job};
 ghost use Rattle.cmd_words.specs.Misfit.{IsWhole, NightFits, first_misfit, has_texts};
 ghost use Rattle.cmd_words.specs.Misfit.{misfit_in};
-ghost use Rattle.cmd_words.specs.Asked.{AnswersWords, ExplainsWords, IsAsked, RefusedBy};
+ghost use Rattle.cmd_words.specs.Asked.{AnswersWords, ExplainsUnread, ExplainsWords, IsAsked, RefusedBy};
 
 use crate::arguments::{
     address_at, any_route_at, base_at, cid_at, count_at, cue_at, follows_at, has_flag, name_at,
     name_of, patience_at, priority_at, resumes_at, source_name_at, spare_at, start_at, targets_at,
     text_at, ttl_at, universe_at, universes_at,
 };
-use crate::job::{Job, Name, Night, WordsFault};
+use crate::fault::{Unread, WordsFault};
+use crate::job::{Job, Name, Night};
 use crate::program::program;
 use clap::error::ErrorKind;
 use clap::{ArgMatches, Error};
@@ -27,13 +28,26 @@ use std::convert::AsStr;
 /// The first that applies is answered: Refused where no line of the program takes the words, Unfit
 /// where an argument lacks its form, and else the job. Memory comes in place of any of them if an
 /// allocation failed.
-pub fn read_words<'a, S: AsStr>(alloc: Global, words: &'a [S]) -> Result<Job, WordsFault<'a>>
+pub fn read_words<S: AsStr>(alloc: Global, words: &[S]) -> Result<Job, WordsFault>
     ensures ok { IfOk result (IsAsked (map S.text words.now)) }
     ensures ranges { IfOk result IsJobInRange }
     ensures err { IfErr result (ExplainsWords (map S.text words.now)) }
 {
+    Ok(read_or_explain(alloc, words)?)
+}
+
+/// Reads the words as [`read_words`] does, and says which argument is unfit.
+///
+/// # Errors
+///
+/// As [`read_words`].
+pub fn read_or_explain<'a, S: AsStr>(alloc: Global, words: &'a [S]) -> Result<Job, Unread<'a>>
+    ensures ok { IfOk result (IsAsked (map S.text words.now)) }
+    ensures ranges { IfOk result IsJobInRange }
+    ensures err { IfErr result (ExplainsUnread (map S.text words.now)) }
+{
     let Ok(program) = program(alloc) else {
-        return Err(WordsFault::Memory);
+        return Err(Unread::Memory);
     };
     let matches = match program.try_get_matches_from(words) {
         Ok(matches) => matches,
@@ -43,18 +57,18 @@ pub fn read_words<'a, S: AsStr>(alloc: Global, words: &'a [S]) -> Result<Job, Wo
     read_line(alloc, line, inner)
 }
 
-fn refusal(error: Error) -> WordsFault<'static>
+fn refusal(error: Error) -> Unread<'static>
     ensures { RefusedBy error result }
 {
     if error.kind() == ErrorKind::OutOfMemory {
-        WordsFault::Memory
+        Unread::Memory
     } else {
-        WordsFault::Refused(error)
+        Unread::Refused(error)
     }
 }
 
 // The job of the line of this name, where each of its texts has its form.
-fn read_line<'a>(alloc: Global, line: &str, matches: &ArgMatches<'a>) -> Result<Job, WordsFault<'a>>
+fn read_line<'a>(alloc: Global, line: &str, matches: &ArgMatches<'a>) -> Result<Job, Unread<'a>>
     requires { IsWhole (line.now, rows_of (found_of matches.now)) }
     ensures { AnswersWords IsJobInRange (job_of_line (line.now, rows_of (found_of matches.now)))
         (misfit_in (line.now, rows_of (found_of matches.now))) result }
@@ -82,7 +96,7 @@ fn read_line<'a>(alloc: Global, line: &str, matches: &ArgMatches<'a>) -> Result<
     }
 }
 
-fn read_check<'a>(alloc: Global, matches: &ArgMatches<'a>) -> Result<Job, WordsFault<'a>>
+fn read_check<'a>(alloc: Global, matches: &ArgMatches<'a>) -> Result<Job, Unread<'a>>
     requires { has_texts (rules_of (codes "check")) (rows_of (found_of matches.now)) ≡ true }
     ensures { AnswersWords IsJobInRange (check_of (rows_of (found_of matches.now)))
         (misfit_in (codes "check", rows_of (found_of matches.now))) result }
@@ -94,7 +108,7 @@ fn read_check<'a>(alloc: Global, matches: &ArgMatches<'a>) -> Result<Job, WordsF
     })
 }
 
-fn read_explain<'a>(alloc: Global, matches: &ArgMatches<'a>) -> Result<Job, WordsFault<'a>>
+fn read_explain<'a>(alloc: Global, matches: &ArgMatches<'a>) -> Result<Job, Unread<'a>>
     requires { has_texts (rules_of (codes "explain")) (rows_of (found_of matches.now)) ≡ true }
     ensures { AnswersWords IsJobInRange (explain_of (rows_of (found_of matches.now)))
         (misfit_in (codes "explain", rows_of (found_of matches.now))) result }
@@ -103,7 +117,7 @@ fn read_explain<'a>(alloc: Global, matches: &ArgMatches<'a>) -> Result<Job, Word
     Ok(Job::Explain { show })
 }
 
-fn read_cues<'a>(alloc: Global, matches: &ArgMatches<'a>) -> Result<Job, WordsFault<'a>>
+fn read_cues<'a>(alloc: Global, matches: &ArgMatches<'a>) -> Result<Job, Unread<'a>>
     requires { has_texts (rules_of (codes "cues")) (rows_of (found_of matches.now)) ≡ true }
     ensures { AnswersWords IsJobInRange (cues_of (rows_of (found_of matches.now)))
         (misfit_in (codes "cues", rows_of (found_of matches.now))) result }
@@ -115,7 +129,7 @@ fn read_cues<'a>(alloc: Global, matches: &ArgMatches<'a>) -> Result<Job, WordsFa
     })
 }
 
-fn read_look<'a>(alloc: Global, matches: &ArgMatches<'a>) -> Result<Job, WordsFault<'a>>
+fn read_look<'a>(alloc: Global, matches: &ArgMatches<'a>) -> Result<Job, Unread<'a>>
     requires { has_texts (rules_of (codes "look")) (rows_of (found_of matches.now)) ≡ true }
     ensures { AnswersWords IsJobInRange (look_of (rows_of (found_of matches.now)))
         (misfit_in (codes "look", rows_of (found_of matches.now))) result }
@@ -126,7 +140,7 @@ fn read_look<'a>(alloc: Global, matches: &ArgMatches<'a>) -> Result<Job, WordsFa
     Ok(Job::Look { show, cue, cid })
 }
 
-fn read_slots<'a>(alloc: Global, matches: &ArgMatches<'a>) -> Result<Job, WordsFault<'a>>
+fn read_slots<'a>(alloc: Global, matches: &ArgMatches<'a>) -> Result<Job, Unread<'a>>
     requires { has_texts (rules_of (codes "slots")) (rows_of (found_of matches.now)) ≡ true }
     ensures { AnswersWords IsJobInRange (slots_of (rows_of (found_of matches.now)))
         (misfit_in (codes "slots", rows_of (found_of matches.now))) result }
@@ -137,7 +151,7 @@ fn read_slots<'a>(alloc: Global, matches: &ArgMatches<'a>) -> Result<Job, WordsF
     Ok(Job::Slots { show, cue, base })
 }
 
-fn read_play<'a>(alloc: Global, matches: &ArgMatches<'a>) -> Result<Job, WordsFault<'a>>
+fn read_play<'a>(alloc: Global, matches: &ArgMatches<'a>) -> Result<Job, Unread<'a>>
     requires { has_texts (rules_of (codes "play")) (rows_of (found_of matches.now)) ≡ true }
     ensures { AnswersWords IsJobInRange (play_of (rows_of (found_of matches.now)))
         (misfit_in (codes "play", rows_of (found_of matches.now))) result }
@@ -146,7 +160,7 @@ fn read_play<'a>(alloc: Global, matches: &ArgMatches<'a>) -> Result<Job, WordsFa
     Ok(Job::Play(night))
 }
 
-fn read_live<'a>(alloc: Global, matches: &ArgMatches<'a>) -> Result<Job, WordsFault<'a>>
+fn read_live<'a>(alloc: Global, matches: &ArgMatches<'a>) -> Result<Job, Unread<'a>>
     requires { has_texts (rules_of (codes "live")) (rows_of (found_of matches.now)) ≡ true }
     ensures { AnswersWords IsJobInRange (live_of (rows_of (found_of matches.now)))
         (misfit_in (codes "live", rows_of (found_of matches.now))) result }
@@ -162,7 +176,7 @@ fn read_live_night<'a>(
     alloc: Global,
     matches: &ArgMatches<'a>,
     night: Night,
-) -> Result<Job, WordsFault<'a>>
+) -> Result<Job, Unread<'a>>
     requires asked { night_of (rows_of (found_of matches.now)) ≡ Some night }
     requires range { night.priority ≤ 200 }
     requires fits { NightFits (rows_of (found_of matches.now)) }
@@ -189,7 +203,7 @@ fn read_live_night<'a>(
 }
 
 // The night of a line that plays, where each of its texts has its form.
-fn read_night<'a>(alloc: Global, matches: &ArgMatches<'a>) -> Result<Night, WordsFault<'a>>
+fn read_night<'a>(alloc: Global, matches: &ArgMatches<'a>) -> Result<Night, Unread<'a>>
     requires { has_texts night_arguments (rows_of (found_of matches.now)) ≡ true }
     ensures night { AnswersWords (λ night. night.priority ≤ 200)
         (night_of (rows_of (found_of matches.now)))
@@ -219,7 +233,7 @@ fn read_night<'a>(alloc: Global, matches: &ArgMatches<'a>) -> Result<Night, Word
     })
 }
 
-fn read_rehearse<'a>(alloc: Global, matches: &ArgMatches<'a>) -> Result<Job, WordsFault<'a>>
+fn read_rehearse<'a>(alloc: Global, matches: &ArgMatches<'a>) -> Result<Job, Unread<'a>>
     requires { has_texts (rules_of (codes "rehearse")) (rows_of (found_of matches.now)) ≡ true }
     ensures { AnswersWords IsJobInRange (rehearse_of (rows_of (found_of matches.now)))
         (misfit_in (codes "rehearse", rows_of (found_of matches.now))) result }
@@ -229,7 +243,7 @@ fn read_rehearse<'a>(alloc: Global, matches: &ArgMatches<'a>) -> Result<Job, Wor
     Ok(Job::Rehearse { show, script })
 }
 
-fn read_listen<'a>(matches: &ArgMatches<'a>) -> Result<Job, WordsFault<'a>>
+fn read_listen<'a>(matches: &ArgMatches<'a>) -> Result<Job, Unread<'a>>
     requires { has_texts (rules_of (codes "listen")) (rows_of (found_of matches.now)) ≡ true }
     ensures { AnswersWords IsJobInRange (listen_of (rows_of (found_of matches.now)))
         (misfit_in (codes "listen", rows_of (found_of matches.now))) result }
@@ -244,7 +258,7 @@ fn read_listen<'a>(matches: &ArgMatches<'a>) -> Result<Job, WordsFault<'a>>
     })
 }
 
-fn read_watch<'a>(matches: &ArgMatches<'a>) -> Result<Job, WordsFault<'a>>
+fn read_watch<'a>(matches: &ArgMatches<'a>) -> Result<Job, Unread<'a>>
     ensures { AnswersWords IsJobInRange (watch_job (rows_of (found_of matches.now)))
         (misfit_in (codes "watch", rows_of (found_of matches.now))) result }
 {

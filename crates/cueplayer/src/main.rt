@@ -22,9 +22,9 @@ mod start_lines;
 mod system_night;
 mod words;
 
-use cmd_words::{WordsFault, read_words};
+use cmd_words::{Unread, WordsFault, read_or_explain, read_words};
 use jobs::run;
-use remarks::JobEnd;
+use remarks::{JobEnd, JobFault, Remark};
 use std::env;
 use std::process::ExitCode;
 use system_devices::{SystemOutput, remove_unused_record};
@@ -42,18 +42,21 @@ fn end_of_words(rt: &HostRuntime) -> JobEnd {
         Ok(job) => JobEnd::of_job(run(rt, job)),
         Err(fault) => {
             remove_unused_record(rt, None);
-            end_of_fault(rt, fault)
+            end_of_fault(rt, fault, words.as_slice())
         }
     }
 }
 
-fn end_of_fault(rt: &HostRuntime, fault: WordsFault<'_>) -> JobEnd {
+fn end_of_fault(rt: &HostRuntime, fault: WordsFault, words: &[String]) -> JobEnd {
     match fault {
         WordsFault::Refused(error) => {
             let shown = error.print(rt).map_err(|fault| fault.kind());
             JobEnd::of_text(error.use_stderr(), shown)
         }
-        WordsFault::Unfit(misfit) => JobEnd::of_misfit(&misfit),
+        WordsFault::Unfit => match read_or_explain(rt.alloc(), words) {
+            Err(Unread::Unfit(misfit)) => JobEnd::of_misfit(&misfit),
+            _ => JobEnd::Fault(JobFault::Words(Remark::new())),
+        },
         WordsFault::Memory => JobEnd::of_memory(),
     }
 }

@@ -1,7 +1,7 @@
 use Rattle.std.proofs.Common.{map, ◌∙◌, ap, option_map}
 use Rattle.clap.specs.Words.{app_of, found_of, rows_of}
 use Rattle.cmd_words.proofs.WordsLemmas.{answered, explained, named_line, passes_words, whole_line}
-use Rattle.cmd_words.proofs.read.read_words.Goals as goal
+use Rattle.cmd_words.proofs.read.read_or_explain.Goals as goal
 
 pub returns-in-Err-clause-err : goal.returns-in-Err-clause-err
 returns-in-Err-clause-err g c =
