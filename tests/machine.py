@@ -14,6 +14,7 @@ import subprocess
 import sys
 import threading
 import time
+from collections.abc import Callable
 from typing import NamedTuple
 
 # How long a nap is, and by how much it is overslept on a machine at rest, in seconds.
@@ -108,8 +109,8 @@ class Patience:
     def __init__(self, left: float) -> None:
         self.left = left
 
-    def wait(self) -> None:
-        """Waits until the machine has not stood still for a while."""
+    def wait(self, say: Callable[[str], None]) -> None:
+        """Waits until the machine has not stood still for a while, and says for how long."""
         began = time.monotonic()
         until = began + self.left
         while (now := time.monotonic()) < until and stands_still(now - REST):
@@ -117,7 +118,7 @@ class Patience:
         waited = time.monotonic() - began
         self.left -= waited
         if waited > 1.0:
-            print(f"waited {waited:.0f} s for a machine that stood still", flush=True)
+            say(f"waited {waited:.0f} s for a machine that stood still")
 
 
 def stands_still(since: float) -> bool:
