@@ -22,8 +22,6 @@ LONG = (
     "test_refused_growths",
     "test_bad_night",
     "test_long_night",
-    "test_desk_touch",
-    "test_desk_evening",
     "test_restart",
     "test_hostile",
 )
@@ -47,11 +45,22 @@ def class_name(test: unittest.TestCase) -> str:
     return f"{type(test).__module__}.{type(test).__qualname__}"
 
 
-def ordered(tests: Iterable[unittest.TestCase]) -> list[str]:
-    """The names of the classes of these tests, once each, the longest first."""
-    names = dict.fromkeys(map(class_name, tests))
+def has_browser(name: str) -> bool:
+    """Whether a class of this name may open a browser."""
+    return hasattr(sys.modules[name.partition(".")[0]], "CHROMIUM")
+
+
+def chains(tests: Iterable[unittest.TestCase]) -> list[list[str]]:
+    """The names of the classes of these tests, once each, the longest first.
+
+    Those of a chain run one after the other: no two browsers take the processors from each other.
+    """
+    names = list(dict.fromkeys(map(class_name, tests)))
     place = {module: at for at, module in enumerate(LONG)}
-    return sorted(names, key=lambda name: place.get(name.partition(".")[0], len(LONG)))
+    names.sort(key=lambda name: place.get(name.partition(".")[0], len(LONG)))
+    browsers = [name for name in names if has_browser(name)]
+    alone = [[name] for name in names if name not in browsers]
+    return [browsers, *alone] if browsers else alone
 
 
 def work(pipe: int, words: list[str], is_first: bool) -> None:
@@ -100,19 +109,24 @@ class Lane:
 
 
 class Lanes:
-    """Runs classes in so many lanes, and sums up what comes of them."""
+    """Runs chains of classes in so many lanes, and sums up what comes of them."""
 
-    def __init__(self, names: list[str], options: list[str], is_first: bool) -> None:
-        self.names = iter(names)
+    def __init__(self, chains: list[list[str]], options: list[str], is_first: bool) -> None:
+        self.chains = iter(chains)
         self.options = options
         self.is_first = is_first
         self.sum = Sum()
         self.lock = threading.Lock()
 
-    def next(self) -> str | None:
-        """The next class; none is left once all are taken, or one failed and that is enough."""
+    def next(self) -> list[str] | None:
+        """The next chain; none is left once all are taken."""
         with self.lock:
-            return None if self.is_first and self.sum.failed else next(self.names, None)
+            return next(self.chains, None)
+
+    def is_over(self) -> bool:
+        """Whether a test failed and that is enough."""
+        with self.lock:
+            return self.is_first and bool(self.sum.failed)
 
     def take(self, told: list[str], came: Sum) -> None:
         with self.lock:
@@ -121,10 +135,14 @@ class Lanes:
 
     def run_lane(self) -> None:
         lane = Lane(self.options)
-        while (name := self.next()) is not None:
-            self.take(*lane.run(name))
-            if lane.process.poll() is not None:
-                lane = Lane(self.options)
+        while (chain := self.next()) is not None:
+            for name in chain:
+                if self.is_over():
+                    break
+                self.take(*lane.run(name))
+                if lane.process.poll() is not None:
+                    lane.close()
+                    lane = Lane(self.options)
         lane.close()
 
     def run(self, count: int) -> Sum:
