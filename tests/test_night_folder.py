@@ -12,7 +12,6 @@ import time
 import unittest
 
 from folders import NIGHT, FolderNightTest, resumes
-from machine import took
 from program import TOP
 from tooling import PATIENCE, stand_still, wait_for
 from wire import SEQUENCE, terminal
@@ -42,7 +41,8 @@ class Goes(FolderNightTest):
         self.begin_night()
         self.spare()
         names = {path.name for path in self.night.iterdir()}
-        self.assertEqual({"night", "record", "replies", "in", "lock", "pid", "spare"}, names)
+        files = {"night", "show", "record", "replies", "in", "lock", "pid", "spare"}
+        self.assertEqual(files, names)
         words = "\n".join(map(str, self.words)) + "\n"
         self.assertEqual(words, (self.night / "night").read_text())
         self.assertTrue((self.night / "in").is_fifo())
@@ -166,11 +166,29 @@ class Goes(FolderNightTest):
         self.assertEqual(0, self.run_script("end").status)
         self.wait_for_reply("the night has ended$")
 
+    def test_show_that_is_edited(self):
+        """Spares and restarts play the copy that the night began with."""
+        self.begin_night()
+        self.assertEqual((0, ["ok", "cue 1"]), self.without_moments("go"))
+        spare, show = self.spare(), self.show.read_bytes()
+        self.assertEqual(show, (self.night / "show").read_bytes())
+        self.show.write_bytes(b"CUE 1\n")
+        self.kill("spare")
+        wait_for(lambda: self.number("spare") != spare, "another spare")
+        self.kill_all()
+        self.show.unlink()
+        status, out, _ = self.run_script("start", "--background")
+        self.assertEqual(0, status, out)
+        self.assertEqual((0, ["ok", "cue 2"]), self.without_moments("go"))
+        self.assertNotIn("another show", self.replies())
+
     def test_no_spare_of_another_show(self):
-        """That is told once. Where `live` dies, the night cannot go on."""
+        """That is told once, and so is that a night is not gone on with, which is tried again."""
         self.begin_night()
         self.spare()
-        self.show.write_bytes(b"CUE 1\n")
+        show = (self.night / "show").read_bytes()
+        for file in (self.night / "show", self.show):
+            file.write_bytes(b"CUE 1\n")
         self.kill("spare")
         self.wait_for_reply("record: another show")
         self.wait_for_reply("no spare stands by, as the lines above say")
@@ -181,6 +199,9 @@ class Goes(FolderNightTest):
         self.wait_for_reply("live refused to begin, with status 4")
         self.assertEqual(1, self.replies().count("no spare stands by"))
         # The spare said so, and then `live`.
+        self.assertEqual(2, self.replies().count("record: another show"))
+        (self.night / "show").write_bytes(show)
+        self.wait_for_reply("plays again$")
         self.assertEqual(2, self.replies().count("record: another show"))
 
     def test_keeper_is_killed(self):
@@ -450,7 +471,7 @@ class Stubbed(FolderNightTest):
         stub = self.file("stub", STUB.format(folder=self.folder).encode())
         stub.chmod(0o755)
         self.environment["CUEPLAYER"] = str(stub)
-        self.says()
+        self.says("a word on standard error")
 
     def says(self, *lines):
         self.file("says", "".join(f"{line}\n" for line in lines).encode())
@@ -484,27 +505,30 @@ class Stubbed(FolderNightTest):
         done = self.run_script("start", *self.words)
         self.assertEqual(1, done.err.count("refused to begin"))
         self.assertEqual(1, self.replies().count("refused to begin"))
+        self.night = self.folder / "another"
         with open(self.folder / "log", "wb") as log:
-            words = [NIGHT, self.night, "start"]
+            words = [NIGHT, self.night, "start", *self.words]
             subprocess.run(words, stdout=log, stderr=log, env=self.environment, timeout=PATIENCE)
         self.assertEqual(1, (self.folder / "log").read_text().count("refused to begin"))
 
-    def test_five_in_a_minute(self):
-        """After a signal or a fault it is started again, six times, and then a while later."""
-        for status, said in ((5, "ended with status 5"), (6, "ended with status 6"),
-                             (134, "was ended by SIGABRT")):  # fmt: skip
+    def test_each_second(self):
+        """What does not begin is tried for ever, no more often than each second, and told once."""
+        for status, said in ((2, "refused to begin, with status 2"), (3, "with status 3"),
+                             (5, "does not begin"), (134, "does not begin")):  # fmt: skip
             with self.subTest(status):
                 self.night = self.folder / f"night {status}"
+                self.assertEqual(0, self.run_script("make", *self.words).status)
                 self.file("status", b"%d\n" % status)
                 self.file("began", b"")
                 began = time.monotonic()
-                self.keeper(*self.words)
-                wait = r"five restarts in a minute: the next in (\d+) s; "
-                left = int(self.wait_for_reply(wait)[0])
-                self.assertTrue(59 - took(began).ms / 1000 <= left <= 60, left)
-                self.assertEqual(6, self.began())
-                self.assertEqual(5, len(self.wait_for_reply(rf"{said}: {GO_ON}$", 5)))
-                self.assertIn("\nrestarts: 5\n", self.run_script("status").out)
+                keeper = self.keeper()
+                wait_for(lambda: self.began() > 3, "four starts")
+                self.assertGreater(time.monotonic() - began, 2.9)
+                self.assertIsNone(keeper.process.poll())
+                told = "the lines above say why; tried again each second; `halt` ends that"
+                self.assertEqual(1, len(self.wait_for_reply(rf"live .*{said}: {told}$")))
+                self.assertEqual(1, self.replies().count("a word on standard error"))
+                self.assertIn(told, self.run_script("status").out)
                 self.assertEqual(0, self.run_script("halt").status)
 
     def test_record_in_use(self):

@@ -8,6 +8,8 @@ import time
 import uuid
 from pathlib import Path
 
+from cueplayer_tools.keeper.locks import find_holder
+
 # A console that ends may take so many seconds to let go.
 PATIENCE = 1.0
 
@@ -29,22 +31,6 @@ def holder(cid: uuid.UUID) -> int | None:
     """The number of the process that goes on to hold it; None where nobody does, or the system
     does not tell."""
     until = time.monotonic() + PATIENCE
-    while (found := _holder_now(cid)) is not None and time.monotonic() < until:
+    while (found := find_holder(str(lock_file(cid)))) is not None and time.monotonic() < until:
         time.sleep(0.05)
     return found
-
-
-def _holder_now(cid: uuid.UUID) -> int | None:
-    try:
-        found = lock_file(cid).stat()
-        locks = Path("/proc/locks").read_text("ascii").splitlines()
-    except OSError:
-        return None
-    place = f"{os.major(found.st_dev):02x}:{os.minor(found.st_dev):02x}:{found.st_ino}"
-    for line in locks:
-        # Its number, FLOCK, ADVISORY, WRITE, the process, the file. Who waits for one has an
-        # arrow.
-        words = line.split()
-        if words[1] == "FLOCK" and words[5] == place and int(words[4]) > 0:
-            return int(words[4])
-    return None

@@ -11,29 +11,27 @@ _CARD = re.compile(
     rb"|the route to [^ \n]+ leads by [^ \n]+, and not by )",
     re.MULTILINE,
 )
-# How many starts there may be within how many seconds.
-_MOST, _SPAN = 5, 60
+# Why a record is refused, but for what passes by itself, and for its end.
+_RECORD = re.compile(rb"^record: (?!in use|the night has ended|device fault|/)(.*)$", re.MULTILINE)
+_BEGUN = b"end ends the night"
+# How far starts are apart at least, in seconds: each gets what processor it wants.
+_APART = 1.0
+AGAIN = "tried again each second; `halt` ends that"
 
 
-class Starts:
-    """The latest starts of a kind, by a clock that nobody sets: five within a minute."""
+class Pace:
+    """When the next start of a kind may come: at once, or a second behind the last one."""
 
     def __init__(self) -> None:
-        self.moments: list[int] = []
+        self.last = -_APART
 
-    @staticmethod
-    def _now() -> int:
-        return int(time.clock_gettime(time.CLOCK_BOOTTIME))
-
-    def left(self) -> int:
+    def left(self) -> float:
         """For how many seconds the next one is held up."""
-        if len(self.moments) < _MOST:
-            return 0
-        return max(self.moments[0] + _SPAN - self._now(), 0)
+        return max(self.last + _APART - time.monotonic(), 0.0)
 
     def count(self) -> None:
         """Counts one."""
-        self.moments = [*self.moments[1 - _MOST :], self._now()]
+        self.last = time.monotonic()
 
 
 def signal_name(number: int) -> str:
@@ -63,24 +61,56 @@ class Ending:
         """Whether a line begins so."""
         return b"\n" + beginning in b"\n" + self.told
 
+    def has_begun(self) -> bool:
+        """Whether it played: another keeper's did."""
+        return self.status is None or self.has_told(_BEGUN)
+
     def wants_card(self) -> bool:
         """Whether it was refused since its network is not there."""
         return self.status == 2 and _CARD.search(self.told) is not None
 
-    def refusal(self, has_played: bool, has_record: bool, has_ended: bool) -> str | None:
-        """Why the night is not gone on with, and what to do; None where it is."""
+    def has_no_record(self) -> str | None:
+        """Why the record cannot be taken up, in the program's words; None where it could be."""
+        found = _RECORD.search(self.told) if self.status == 4 else None
+        return None if found is None else "record: " + found[1].decode("ascii", "replace")
+
+    def end(self, has_ended: bool) -> str | None:
+        """That the night is over; None where it is not."""
         if self.status == 4 and self.has_told(b"record: the night has ended"):
             begins = "`start SHOW ..` begins a new one, and keeps this one's record"
             return f"the night has ended; {begins}"
-        if self.status == 0 or has_ended:
-            return "the night has ended"
-        if self.has_told(b"another console on this machine sends under this CID"):
+        return "the night has ended" if self.status == 0 or has_ended else None
+
+    def refusal(self, has_record: bool) -> str | None:
+        """Why a night that was to begin with words that were just given does not; None where it
+        has begun."""
+        if self._is_cid():
             return "another live has this CID: end that one, then `start`"
-        if self.status == 4 and has_played and self.has_told(b"record: in use by process"):
-            return None
         if self.status in (2, 3, 4):
             told = f"live refused to begin, with status {self.status}"
             return f"{told}: the lines above say why; then `start`"
         if not has_record:
             return f"{self.words()} before the night began: the lines above say why; then `start`"
         return None
+
+    def trouble(self) -> str:
+        """Why a night is not gone on with, and what to do while that is tried again."""
+        if self.wants_card():
+            told = "live waits for its network card: the line above says why"
+            return f"{told}; it looks every second"
+        if self._is_cid():
+            return f"another live has this CID: end that one; {AGAIN}"
+        if self.has_told(b"record: in use"):
+            told = "the record is still written for a live that is gone: the disk stalls, or is slow"
+            return f"{told}; {AGAIN}"
+        if self.has_no_record():
+            told = f"live refused to begin, with status {self.status}: the lines above say why"
+            begins = "to begin in the last cue, `halt`, and `start --if-refused begin`"
+            return f"{told}; tried again each second: put back the record or the show; {begins}"
+        if self.status in (2, 3, 4):
+            told = f"live refused to begin, with status {self.status}"
+            return f"{told}: the lines above say why; {AGAIN}"
+        return f"live does not begin: the lines above say why; {AGAIN}"
+
+    def _is_cid(self) -> bool:
+        return self.has_told(b"another console on this machine sends under this CID")

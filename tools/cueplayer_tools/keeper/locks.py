@@ -62,6 +62,21 @@ def is_locked(folder: Folder, name: str) -> bool:
         os.close(file)
 
 
+def find_holder(path: str) -> int | None:
+    """The number of the process that took the lock of a file, which may be gone while another
+    holds it; None where nobody has it, or the system does not tell."""
+    try:
+        found = os.stat(path)
+        with open("/proc/locks", encoding="ascii") as file:
+            locks = [line.split() for line in file]
+    except OSError:
+        return None
+    place = f"{os.major(found.st_dev):02x}:{os.minor(found.st_dev):02x}:{found.st_ino}"
+    # Its number, FLOCK, ADVISORY, WRITE, the process, the file. Who waits for one has an arrow.
+    held = (int(words[4]) for words in locks if words[1] == "FLOCK" and words[5] == place)
+    return next((number for number in held if number > 0), None)
+
+
 def write_number(file: int, number: int) -> None:
     """Writes the number of a process over what is in a file: on a full disk there is room for it,
     and only where it is shorter is the file empty for a moment."""

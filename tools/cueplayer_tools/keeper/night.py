@@ -5,17 +5,21 @@ by one of the FIFO; where the system has none, it looks every 30 ms. The light d
 where it is killed, `live` plays on.
 """
 
+import contextlib
 import os
 import signal
 import time
+from typing import NamedTuple
 
-from cueplayer_tools.keeper.endings import Ending, Starts
+from cueplayer_tools.keeper.anew import begin_anew
+from cueplayer_tools.keeper.endings import Ending, Pace
 from cueplayer_tools.keeper.folder import Folder, open_file
 from cueplayer_tools.keeper.growth import Growth
 from cueplayer_tools.keeper.helpers import Helpers
 from cueplayer_tools.keeper.locks import await_lock, take_lock, write_number
 from cueplayer_tools.keeper.players import find_keeper, find_live
 from cueplayer_tools.keeper.processes import Process, Starter, find_policy, set_policy, wait_for
+from cueplayer_tools.keeper.show_copy import BEGIN
 from cueplayer_tools.keeper.spare import Spare
 from cueplayer_tools.keeper.streams import Failure
 from cueplayer_tools.keeper.unread import Unread
@@ -24,8 +28,8 @@ from cueplayer_tools.keeper.unread import Unread
 _LOOK_EVERY, _NAME_EVERY = 0.03, 1.0
 # For how long the lock of the record or of the night may be another's.
 _LOCK_PATIENCE = 1.0
-# How long what a `live` said last may be on the way, and how often it looks for its card.
-_LAST, _CARD_EVERY = 0.2, 2.0
+# How long what a `live` said last may be on the way.
+_LAST = 0.2
 # How much of what a `live` told from its start on is looked at.
 _MOST_TOLD = 1 << 20
 _IGNORED = ("SIGINT", "SIGHUP", "SIGQUIT", "SIGTSTP", "SIGTTIN", "SIGTTOU", "SIGPIPE")
@@ -42,6 +46,15 @@ def _leave(*_: object) -> None:
     raise _Terminated
 
 
+class Options(NamedTuple):
+    """How a night is kept: whether it is gone on with, as no words were given for it, whether that
+    is behind the terminal, and whether it begins anew where its record cannot be taken up."""
+
+    goes_on: bool
+    is_behind: bool
+    begins: bool
+
+
 def failure_kept(folder: Folder) -> Failure:
     """That another process keeps the night."""
     return Failure(f"process {find_keeper(folder)} keeps the night in {folder.path} already")
@@ -50,15 +63,13 @@ def failure_kept(folder: Folder) -> Failure:
 class KeptNight:
     """A night, from the start of its keeper to its end."""
 
-    def __init__(self, folder: Folder, starter: Starter, goes_on: bool) -> None:
+    def __init__(self, folder: Folder, starter: Starter, options: Options) -> None:
         """Goes on with a night, or begins one with words that were just given."""
-        self.folder, self.starter, self.goes_on = folder, starter, goes_on
+        self.folder, self.starter, self.options = folder, starter, options
         self.helpers = Helpers(folder, starter)
         self.policy = find_policy()
         self.unread = Unread(folder)
-        # Whether it was told that a `live` waits for its card.
-        self.awaits_card = False
-        self.starts = Starts()
+        self.pace = Pace()
         self.growth = Growth(folder.file("in"))
         found = find_live(folder)
         self.spare = Spare(folder, starter, self.tell)
@@ -66,6 +77,9 @@ class KeptNight:
         # was one that played.
         self.mark = 0
         self.is_begun = self.has_played = found is not None
+        # Why `live` did not begin, and what it said then; None and nothing where it did.
+        self.trouble: str | None = None
+        self.said: bytes | None = None
         self.live = self._start_live() if found is None else self._adopt(found)
 
     def tell(self, text: str) -> None:
@@ -93,7 +107,8 @@ class KeptNight:
 
     def _start_live(self) -> Process:
         self.mark, self.is_begun = self.folder.size("replies"), False
-        return self.starter.start("pid")
+        self.pace.count()
+        return self.starter.start("pid", known=self.said)
 
     def _take_back(self) -> None:
         lines = self.unread.take_late()
@@ -105,8 +120,18 @@ class KeptNight:
     def _has_begun(self) -> bool:
         if not self.is_begun:
             told = b"\n" + self.folder.read("replies", self.mark, _MOST_TOLD)
-            self.is_begun = b"\nend ends the night" in told
+            if b"\nend ends the night" in told:
+                self._begin()
         return self.is_begun
+
+    def _begin(self) -> None:
+        """Notes that `live` plays, and tells it where it did not for a while."""
+        self.is_begun = self.has_played = True
+        with contextlib.suppress(OSError):
+            os.unlink(self.folder.file(BEGIN))
+        if self.trouble is not None:
+            self.tell(f"live (process {self.live.number}) plays again")
+        self.trouble = self.said = None
 
     def _wait(self) -> None:
         """Waits until a process has ended, or something was written: then it is looked at 30 ms
@@ -115,7 +140,7 @@ class KeptNight:
         ends = [end for each in processes for end in each.descriptors()]
         written = self.growth.descriptors()
         is_told = written and len(ends) == len(processes) and self.unread.since is None
-        is_settled = self.spare.is_refused or self.spare.process is not None
+        is_settled = self.spare.refused is not None or self.spare.process is not None
         seconds = _NAME_EVERY if is_told and is_settled else _LOOK_EVERY
         ready = wait_for(ends + written, seconds)
         if ready and not set(ready) & set(ends):
@@ -129,7 +154,7 @@ class KeptNight:
         self.unread.forget()
         while not self.live.has_ended():
             self._take_back()
-            if not self.spare.is_refused and self._has_begun():
+            if self._has_begun():
                 self.spare.keep()
             self._wait()
         status = self.live.status()
@@ -153,38 +178,50 @@ class KeptNight:
         self._write_number(process.number)
         self.tell(f"{ending.words()}: the spare (process {process.number}) goes on where it was")
 
-    def _await_card(self) -> None:
-        """Has `live` look for its card again soon. That is told once."""
-        if not self.awaits_card:
-            waits = "live waits for its network card: the line above says why"
-            self.tell(f"{waits}; it looks every 2 s")
-        self.awaits_card = True
-        time.sleep(_CARD_EVERY)
+    def _start_again(self, ending: Ending) -> None:
+        """Starts `live` again, at once or a second behind its last start, and tells why, once."""
+        if ending.has_begun():
+            time.sleep(self.pace.left())
+            self.live, self.trouble = self._start_live(), None
+            self.tell(f"{ending.words()}: it is started again, and goes on where it was")
+            return
+        is_anew, trouble = self._find_trouble(ending)
+        if trouble != self.trouble:
+            self.tell(trouble)
+        self.trouble = trouble
+        if not is_anew:
+            time.sleep(self.pace.left())
+        self.live = self._start_live()
 
-    def _hold_up(self) -> None:
-        """Holds up the sixth restart within a minute."""
-        left = self.starts.left()
-        if left:
-            held_up = f"five restarts in a minute: the next in {left} s"
-            self.tell(f"{held_up}; `watch` shows why, `halt` ends it")
-            time.sleep(left)
-        self.starts.count()
+    def _find_trouble(self, ending: Ending) -> tuple[bool, str]:
+        """Why `live` did not begin, or with what it begins anew, at once; whether it does."""
+        if self.said is not None and not self.live.has_news:
+            ending.told = self.said
+        reason = ending.has_no_record()
+        if reason is not None and self.options.begins:
+            return begin_anew(self.folder, self.starter.words[0], reason)
+        self.said = ending.told
+        return False, ending.trouble()
+
+    def _is_patient(self, ending: Ending) -> bool:
+        """Whether a start is tried again though no `live` has played yet. Nobody who has typed
+        words sees what is told behind a terminal."""
+        begins_anew = self.options.begins and ending.has_no_record() is not None
+        waits = self.options.is_behind and ending.wants_card()
+        return self.options.goes_on or begins_anew or waits
 
     def _go_on(self, ending: Ending) -> bool:
-        """Starts `live` again, or tells why not; whether it was started."""
-        if ending.wants_card() and (self.has_played or self.goes_on):
-            self._await_card()
-            self.live = self._start_live()
-            return True
-        has_record, has_ended = self.folder.has_record(), self.folder.has_ended()
-        refusal = ending.refusal(self.has_played, has_record, has_ended)
-        if refusal is not None:
-            self.tell(refusal)
+        """Starts `live` again, or tells why not: the night is over, or it did not begin with words
+        that were just given; whether it was started."""
+        self.has_played = self.has_played or ending.has_begun()
+        end = ending.end(self.folder.has_ended())
+        if end is None and not (self.has_played or self._is_patient(ending)):
+            end = ending.refusal(self.folder.has_record())
+        if end is not None:
+            self.tell(end)
             return False
-        self.has_played, self.awaits_card = True, False
-        self._hold_up()
-        self.live = self._start_live()
-        self.tell(f"{ending.words()}: it is started again, and goes on where it was")
+        self.has_played = True
+        self._start_again(ending)
         return True
 
     def keep(self) -> int:
@@ -204,7 +241,7 @@ class KeptNight:
                 return ending.status or 0
 
 
-def keep_night(folder: Folder, starter: Starter, goes_on: bool) -> int:
+def keep_night(folder: Folder, starter: Starter, options: Options) -> int:
     """Keeps the night going, in this process, until it ends; its status."""
     # A window that closes, control-C and control-Z are none of its business.
     for name in _IGNORED:
@@ -219,7 +256,7 @@ def keep_night(folder: Folder, starter: Starter, goes_on: bool) -> int:
     signal.pthread_sigmask(signal.SIG_UNBLOCK, {signal.SIGTERM})
     helpers: Helpers | None = None
     try:
-        night = KeptNight(folder, starter, goes_on)
+        night = KeptNight(folder, starter, options)
         helpers = night.helpers
         return night.keep()
     except _Terminated:

@@ -45,6 +45,17 @@ def find_spare(folder: Folder) -> int | None:
     return found if is_live(folder, found) and found != find_live(folder) else None
 
 
+def await_start(folder: Folder) -> None:
+    """Waits until processes that were just started play or stand by, or have ended."""
+    until = time.monotonic() + _PATIENCE
+    for name in ("pid", "spare"):
+        number = find_number(folder, name)
+        while os.path.exists(f"/proc/{number}/exe") and not is_live(folder, number):
+            if time.monotonic() > until:
+                return
+            time.sleep(_LOOK_EVERY)
+
+
 def find_keeper(folder: Folder) -> int | None:
     """The process that keeps the night going, once it has written its number."""
     until = time.monotonic() + _PATIENCE

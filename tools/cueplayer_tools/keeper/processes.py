@@ -10,6 +10,8 @@ from collections.abc import Iterator
 from cueplayer_tools.keeper.folder import Folder, open_file
 from cueplayer_tools.keeper.locks import write_number
 from cueplayer_tools.keeper.players import is_live
+from cueplayer_tools.keeper.relay import Relay
+from cueplayer_tools.keeper.show_copy import begin_cue, find_show
 from cueplayer_tools.keeper.streams import Failure, reason, write_all
 
 # A policy of real time, and its priority.
@@ -52,6 +54,9 @@ class Process:
     def __init__(self, folder: Folder, number: int, is_own: bool) -> None:
         self.folder, self.number, self.is_own = folder, number, is_own
         self.descriptor = find_descriptor(number)
+        # What it says may be known; once it has ended: whether it said something new.
+        self.relay: Relay | None = None
+        self.has_news = True
 
     def descriptors(self) -> list[int]:
         """What is ready once it has ended."""
@@ -69,6 +74,8 @@ class Process:
         """Of a process that has ended, as a shell has it: above 128 by a signal. That of another
         keeper's is not known."""
         self.close()
+        if self.relay is not None:
+            self.has_news = self.relay.has_news()
         if not self.is_own:
             return None
         code = os.waitstatus_to_exitcode(os.waitpid(self.number, 0)[1])
@@ -138,35 +145,60 @@ class Starter:
     def _given(self) -> list[str]:
         """The words of `live`. A night that has begun is not begun at a cue again."""
         given: list[str] = []
+        cue = begin_cue(self.folder)
+        has_place = cue is not None or self.folder.has_record()
         is_skipped = False
         for word in self.words:
             if is_skipped:
                 is_skipped = False
-            elif self.folder.has_record() and word.startswith("--start"):
+            elif has_place and word.startswith("--start"):
                 is_skipped = "=" not in word
             else:
                 given.append(word)
-        return given
+        if cue:
+            given += ["--start", cue]
+        return [find_show(self.folder, given[0]), *given[1:]]
 
-    def start(self, name: str, *options: str) -> Process:
-        """Starts a process, whose number comes into the file of this name. A spare takes up the
-        record without the priority of real time: that may keep a processor busy for seconds, and
-        `live` is not to wait for it."""
+    def start(self, name: str, *options: str, known: bytes | None = None) -> Process:
+        """Starts a process, whose number comes into the file of this name. Where it is known what
+        it may say, that does not come into the replies again. A spare takes up the record without
+        the priority of real time: that may keep a processor busy for seconds, and `live` is not to
+        wait for it."""
         record = ["--record", self.folder.file("record"), "--resume"]
         words = [self.program, "live", *self._given(), *options, *record]
+        relay = None if known is None else self._start_relay(known)
         number = self.fork()
         if not number:
             try:
-                self._become(name, words, is_usual=bool(options))
+                self._become(name, words, bool(options), relay)
             except OSError as fault:
                 fault_line = f"cueplayer-night: cannot start {self.program}: {reason(fault)}\n"
                 with contextlib.suppress(OSError):
                     write_all(2, os.fsencode(fault_line))
             finally:
                 os._exit(127)
-        return Process(self.folder, number, True)
+        process = Process(self.folder, number, True)
+        if relay is not None:
+            os.close(relay.source)
+            os.close(relay.sink)
+            process.relay = relay
+        return process
 
-    def _become(self, name: str, words: list[str], is_usual: bool) -> None:
+    def _start_relay(self, known: bytes) -> Relay | None:
+        try:
+            relay = Relay(self.folder, known)
+        except OSError:
+            # Then what is said comes again.
+            return None
+        relay.number = self.fork()
+        if not relay.number:
+            try:
+                os._exit(relay.carry())
+            finally:
+                os._exit(1)
+        return relay
+
+    def _become(self, name: str, words: list[str], is_usual: bool, relay: Relay | None) -> None:
         """Makes this child the process."""
         with contextlib.suppress(OSError):
             file = open_file(self.folder.file(name), os.O_RDWR | os.O_CREAT)
@@ -175,7 +207,8 @@ class Starter:
         fifo = os.open(self.folder.file("in"), os.O_RDWR)
         flags = os.O_WRONLY | os.O_APPEND | os.O_CREAT
         replies = os.open(self.folder.file("replies"), flags, 0o666)
-        for file, place in ((fifo, 0), (replies, 1), (replies, 2)):
+        told = replies if relay is None else relay.sink
+        for file, place in ((fifo, 0), (replies, 1), (told, 2)):
             os.dup2(file, place)
         if is_usual and find_policy() is not None:
             set_policy(0, (os.SCHED_OTHER, 0))

@@ -4,14 +4,18 @@ import re
 import time
 from collections.abc import Callable
 
-from cueplayer_tools.keeper.endings import Starts
+from cueplayer_tools.keeper.endings import Pace
 from cueplayer_tools.keeper.folder import Folder
+from cueplayer_tools.keeper.locks import find_holder, is_locked
 from cueplayer_tools.keeper.players import find_spare
 from cueplayer_tools.keeper.processes import LOOK_EVERY, Process, Starter, wait_for
 
 _GOES_ON = re.compile(rb"^record: .*, goes on at ", re.MULTILINE)
-# For how long a spare may wait for what wrote the record, which may wait for the disk, in seconds.
-_PATIENCE = 3.0
+# For how long a spare may take to go on once nobody else has the record, in seconds; from when on
+# it is told that somebody has.
+_PATIENCE, _TOLD = 3.0, 1.0
+# What a spare that is refused took of a processor is at most this share of the time.
+_SHARE = 0.1
 # How much of the replies is looked through at once; a line is shorter than what is looked at twice.
 _PART, _OVERLAP = 1 << 20, 4096
 
@@ -26,20 +30,30 @@ class Spare:
         self.process = None if found is None else Process(folder, found, False)
         # Where the replies stood as it was started.
         self.mark = folder.size("replies")
-        # Whether a spare was refused: then none is started any more.
-        self.is_refused = False
-        self.starts = Starts()
+        # What the last spare said if it was refused; None where it was not.
+        self.refused: bytes | None = None
+        # When the latest was started, and how long the one that refused took for it.
+        self.began = self.took = 0.0
+        self.pace = Pace()
 
     def keep(self) -> None:
-        """Has one stand by. One that went is replaced, five times a minute; one that refused is
-        not. That waits for the next look: where `live` went too, it is started first."""
+        """Has one stand by. One that went is replaced, and so is one that refused, but not while
+        reading the record again and again would take a processor from the light."""
         if self.process is not None:
             if self.process.has_ended():
                 self._end()
-        elif not self.is_refused and not self.starts.left():
-            self.starts.count()
+            elif self.refused is not None and not self._may_refuse():
+                self.refused = None
+                self.tell("a spare stands by again")
+        elif not self.pace.left() and time.monotonic() >= self.began + self.took / _SHARE:
+            self.pace.count()
+            self.began = time.monotonic()
             self.mark = self.folder.size("replies")
-            self.process = self.starter.start("spare", "--spare")
+            self.process = self.starter.start("spare", "--spare", known=self.refused)
+
+    def _may_refuse(self) -> bool:
+        """Whether the one that was started may still refuse the record, as the last one did."""
+        return time.monotonic() < self.began + 2 * self.took + _PATIENCE
 
     def _end(self) -> None:
         """Tells how it went while `live` plays."""
@@ -48,9 +62,11 @@ class Spare:
             return
         status, number = process.status(), process.number
         if status in range(1, 8):
-            self.is_refused = True
-            told = "no spare stands by, as the lines above say: if live dies, it is started again"
-            self.tell(told)
+            self.took = time.monotonic() - self.began
+            if self.refused is None or process.has_news:
+                self.refused = self.folder.read("replies", self.mark, _PART)
+                told = "no spare stands by, as the lines above say: if live dies, it is started"
+                self.tell(f"{told} again, and may be refused too")
         elif status != 0:
             self.tell(f"the spare (process {number}) is gone: another stands by")
 
@@ -65,16 +81,32 @@ class Spare:
             self.mark += _PART - _OVERLAP
         return False
 
+    def _is_held_by_another(self, number: int) -> bool:
+        """Whether the record's lock is not this spare's. A process that is gone may not be named
+        where it left the lock to another."""
+        record = self.folder.file("record")
+        return is_locked(self.folder, "record") and find_holder(record) != number
+
     def await_light(self) -> bool:
         """Waits until it goes on with the night, or has ended as the night has; whether it goes
-        on. One that does neither is ended."""
-        until = time.monotonic() + _PATIENCE
-        while self.process is not None and time.monotonic() < until:
+        on. One that does neither is ended; but what wrote the record for a `live` that is gone may
+        wait for the disk, and so does the spare."""
+        began = until = time.monotonic()
+        is_told = False
+        while self.process is not None and time.monotonic() < until + _PATIENCE:
             has_ended = self.process.has_ended()
             if self._has_told():
+                # The next one stands by at once.
+                self.pace = Pace()
                 return True
             if has_ended:
                 break
+            if self._is_held_by_another(self.process.number):
+                until = time.monotonic()
+                if until - began > _TOLD and not is_told:
+                    is_told = True
+                    told = "the record is still written for a live that is gone"
+                    self.tell(f"{told}: the disk stalls, or is slow; the spare waits for it")
             wait_for(self.process.descriptors(), LOOK_EVERY / 2)
         self.put_down()
         return False

@@ -7,7 +7,7 @@ import time
 from cueplayer_tools.keeper.commands import command_night
 from cueplayer_tools.keeper.folder import Folder
 from cueplayer_tools.keeper.growth import Follower
-from cueplayer_tools.keeper.players import find_keeper, find_live, find_spare
+from cueplayer_tools.keeper.players import await_start, find_keeper, find_live, find_spare
 from cueplayer_tools.keeper.processes import put_down
 from cueplayer_tools.keeper.streams import Failure, complain, reason, show, show_line
 
@@ -104,6 +104,7 @@ def halt_night(folder: Folder) -> int:
     if find_live(folder) is None and find_keeper(folder) is None:
         raise Failure(f"nothing plays the night in {folder.path}")
     put_down(find_keeper(folder))
+    await_start(folder)
     put_down(find_spare(folder))
     put_down(find_live(folder))
     show_line(folder.note("halted, and not over: `start` goes on with it"))
