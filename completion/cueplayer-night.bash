@@ -15,9 +15,15 @@ _cueplayer_night() {
         kind=-d
         if [[ $current == -* ]]; then choices=--help kind=''; fi
     elif ((COMP_CWORD == 2)); then
-        choices="start make go back goto sub group master where end leave stop halt status watch"
+        choices="start make go back goto sub group master where end leave stop halt update status watch"
+    elif ((COMP_CWORD == 3)) && [[ $job == update ]]; then
+        kind=-f
+    elif ((COMP_CWORD == 3)) && [[ $job == status ]]; then
+        choices=--json
     elif [[ $job != start && $job != make ]]; then
         :
+    elif [[ $before == --if-refused ]]; then
+        choices=begin
     elif [[ $before == --to ]]; then
         choices=239.255.0.0
     elif [[ $before == --interface ]]; then
@@ -25,11 +31,11 @@ _cueplayer_night() {
     elif [[ $before == --* && " $_cueplayer_night_flags --background " != *" $before "* ]]; then
         :
     elif [[ $current == -* ]]; then
-        for name in $_cueplayer_night_options --background; do
+        for name in $_cueplayer_night_options --background --if-refused; do
             [[ $name != --to && " ${COMP_WORDS[*]:3:COMP_CWORD-3} " == *" $name "* ]] ||
                 choices+=" $name"
         done
-        [[ $job == start ]] || choices=${choices% --background}
+        [[ $job == start ]] || choices=${choices% --background --if-refused}
     elif ((COMP_CWORD == 3)); then
         kind=-f
     fi

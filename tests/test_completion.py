@@ -151,12 +151,12 @@ class Night(CompletionTest):
 
     def test_start(self):
         """The show, and the options of `live` that the folder does not give."""
-        options = {*jobs()["live"].options, "--background"}
+        options = {*jobs()["live"].options, "--background", "--if-refused"}
         options -= {"--record", "--resume", "--spare", "--follow", "--patience"}
         self.assertCompletes(["nights", "start", "ni"], "night.asc", "nine shows.asc")
         self.assertCompletes(["nights", "start", "x", ""])
         self.assertCompletes(["nights", "start", "x", "--"], *options)
-        self.assertCompletes(["nights", "make", "x", "--"], *(options - {"--background"}))
+        self.assertCompletes(["nights", "make", "x", "--"], *(options - {"--background", "--if-refused"}))
         self.assertCompletes(["nights", "start", "x", "--to", ""], "239.255.0.0")
         self.assertCompletes(["nights", "start", "x", "--cid", "n"])
         self.assertCompletes(["nights", "start", "x", "--to", "y", "--"], *options)

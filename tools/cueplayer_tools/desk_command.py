@@ -310,7 +310,8 @@ def run_desk(words: argparse.Namespace, tell: Teller, tell_address: Teller) -> i
         night.read()
         levels.read(night.wake)
         looks = BlindLooks(words.show, show, words.base)
-        server.show(night, levels, show_view(show, Path(words.show).name, words.base, osc), looks)
+        called = vars(words).get("called") or Path(words.show).name
+        server.show(night, levels, show_view(show, called, words.base, osc), looks)
         _take_others(night, receiver, midi)
         _watch(night, server, presses)
     finally:

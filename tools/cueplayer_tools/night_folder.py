@@ -17,6 +17,7 @@ from pathlib import Path
 
 from cueplayer_tools.keeper.folder import Folder
 from cueplayer_tools.keeper.locks import is_locked
+from cueplayer_tools.keeper.show_copy import COPY
 from cueplayer_tools.program import keeper
 from cueplayer_tools.words import Refused, printable
 
@@ -51,8 +52,8 @@ class NightFolder:
         self.away_since: float | None = None
 
     def words(self) -> argparse.Namespace:
-        """What `live` plays: the show, where to and by which card, the CID, the base and the
-        priority; Refused where the folder does not say."""
+        """What `live` plays: the show and its name, where to and by which card, the CID, the base
+        and the priority; Refused where the folder does not say."""
         try:
             show, *words = (self.path / "night").read_text("utf-8").split("\n")[:-1]
             options = _options_in(words)
@@ -62,8 +63,11 @@ class NightFolder:
             (card,) = cards or [None]
             priorities: list[str | None] = [*options.get("--priority", [])]
             (priority,) = priorities or [None]
+            copy = self.path / COPY
             return argparse.Namespace(
-                show=show,
+                # The file that was named may have been edited.
+                show=str(copy) if self.folder.has_record() and copy.is_file() else show,
+                called=Path(show).name,
                 cid=cid,
                 base=base,
                 to=options["--to"],

@@ -17,19 +17,21 @@ HELP = """\
 Keeps a night going around `cueplayer live`
 
 usage: cueplayer-night NIGHT start SHOW --to TARGET --cid UUID [OPTION ..]
-       cueplayer-night NIGHT start [--background]
+       cueplayer-night NIGHT start [--background] [--if-refused begin]
        cueplayer-night NIGHT COMMAND
 
 NIGHT is a folder. `start SHOW ..` makes it, with the words of `cueplayer live`, and begins the
 night; `start` alone goes on with it, as after a crash. A spare stands by: if `live` dies, it goes
 on at once.
 
-  start       keeps the night going, here, until it ends; --background: without this terminal
+  start       keeps the night going, here, until it ends; --background: without this terminal;
+              --if-refused begin: in the last cue, if the record cannot be taken up
   make        only makes the folder: `make SHOW --to TARGET --cid UUID ..`
   go, back, goto 4.5, goto 4.5 in 3, sub 3 50, group 1 FL, master 80, where
               commands of `live`: the answer is printed
   end, leave  end the night: dark, or leaving the light to others; `stop` is `end`
   halt        ends `live` and what keeps it, not the night: `start` goes on with it
+  update      checks another SHOW, with which the next `start` begins in the cue that is on
   status      whether the night is played, which cue is on, and what went wrong
   watch       shows the replies as they come
 
@@ -61,6 +63,10 @@ def _run(words: list[str], top: str) -> int:
 
         make_folder(folder, live_words(rest))
         return 0
+    if job == "update":
+        from cueplayer_tools.keeper.update import update_night
+
+        return update_night(folder, rest, os.path.join(top, "cueplayer"))
     if job in ("status", "halt", "watch"):
         from cueplayer_tools.keeper import status
 

@@ -78,18 +78,23 @@ def answered_cue(folder: Folder) -> int | None:
     return None if found is None else thousandths_of(found[1].decode())
 
 
+def find_cue(folder: Folder, show: str) -> int | None:
+    """The last cue that is known of a night, in thousandths, whose show this file should be; None
+    before the first. Refused where the program cannot read the show."""
+    record, cue = folder.read("record", 0, _MOST), answered_cue(folder)
+    if cue is None or is_of_record(folder, show):
+        return cue_at_end(record, read_show(show))
+    return cue
+
+
 def find_last_cue(folder: Folder, show: str) -> str | None:
     """The cue in which a night begins anew that was broken off: the last one that is known, or the
     one before it where this show has not that one; None before the first cue, and where the show
     cannot be read."""
     try:
-        cues = read_show(show)
+        cue, cues = find_cue(folder, show), read_show(show)
     except (Refused, OSError, ValueError):
         return None
-    record = folder.read("record", 0, _MOST)
-    cue = answered_cue(folder)
-    if cue is None or is_of_record(folder, show):
-        cue = cue_at_end(record, cues)
     if cue is None:
         return None
     known = cue if cue in cues.cues else cues.previous_cue(cue)

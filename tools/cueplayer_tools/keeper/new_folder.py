@@ -7,7 +7,7 @@ import time
 from cueplayer_tools.keeper.folder import Folder, whole_path
 from cueplayer_tools.keeper.locks import await_lock, is_locked
 from cueplayer_tools.keeper.players import find_live
-from cueplayer_tools.keeper.show_copy import BEGIN
+from cueplayer_tools.keeper.show_copy import BEGIN, NEXT
 from cueplayer_tools.keeper.streams import Failure, has_control, reason, refusal
 
 # For how long a keeper may take to go once its night has ended, in seconds.
@@ -80,9 +80,9 @@ def make_folder(folder: Folder, words: list[str]) -> None:
     except OSError as fault:
         raise Failure(f"cannot write {folder.file('night')}: {reason(fault)}") from fault
     make_files(folder)
-    if not folder.has_record():
+    for name in () if folder.has_record() else (BEGIN, NEXT):
         with contextlib.suppress(FileNotFoundError):
-            os.unlink(folder.file(BEGIN))
+            os.unlink(folder.file(name))
     # What was said of words that were refused is not of this night.
     if not folder.has_record():
         _write(folder.file("replies"), b"")

@@ -23,6 +23,7 @@ from cueplayer_tools.keeper.show_copy import BEGIN
 from cueplayer_tools.keeper.spare import Spare
 from cueplayer_tools.keeper.streams import Failure
 from cueplayer_tools.keeper.unread import Unread
+from cueplayer_tools.keeper.update import take_update
 
 # How often lines are looked for that `live` has not read, and how often their file by its name.
 _LOOK_EVERY, _NAME_EVERY = 0.03, 1.0
@@ -80,7 +81,10 @@ class KeptNight:
         # Why `live` did not begin, and what it said then; None and nothing where it did.
         self.trouble: str | None = None
         self.said: bytes | None = None
+        told = None if found is not None else take_update(folder, starter.words[0])
         self.live = self._start_live() if found is None else self._adopt(found)
+        if told is not None:
+            self.tell(told)
 
     def tell(self, text: str) -> None:
         """Tells what happened, in the replies and on standard error."""
