@@ -160,17 +160,28 @@ class Desk(DeskFolderTest):
         page.wait(status=0)
 
     def test_live_that_stands_still(self):
-        """The page says so; what is not read is taken back by the keeper, and told."""
+        """The keeper ends it; what is not read is taken back, and told."""
         self.begin_night()
+        self.spare()
         _, page = self.desk()
         live = self.number("pid")
         stand_still(live)
         self.assertEqual(204, page.command("go"))
-        page.wait(late=True)
         told = f"live (process {live}) has not read for a second; taken back: go;"
         wait_for(lambda: any(told in notice for notice in page.notices()), told)
-        os.kill(live, signal.SIGCONT)
         page.wait(late=False, waiting=0, current=None, next="1")
+
+    def test_live_that_stands_still_and_nobody_keeps(self):
+        """The page says so."""
+        self.begin_night()
+        _, page = self.desk()
+        self.kill("lock")
+        live = self.number("pid")
+        stand_still(live)
+        self.assertEqual(204, page.command("go"))
+        page.wait(late=True)
+        os.kill(live, signal.SIGCONT)
+        page.wait(late=False, waiting=0)
 
     def test_words(self):
         """It has the words of the night, and takes no others."""

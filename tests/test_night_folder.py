@@ -326,6 +326,7 @@ class Goes(FolderNightTest):
     def test_line_that_is_not_read(self):
         """It is taken back after a second, and told: nothing is carried out later."""
         self.begin_night()
+        self.spare()
         live = self.number("pid")
         stand_still(live)
         status, out, err = self.run_script("go")
@@ -334,7 +335,7 @@ class Goes(FolderNightTest):
         self.wait_for_reply(
             rf"live \(process {live}\) has not read for a second; taken back: go; "
         )
-        os.kill(live, signal.SIGCONT)
+        self.wait_for_reply(SPARE_GOES_ON)
         self.assertEqual((0, ["where next 1 master 255"]), self.without_moments("where"))
 
     def test_many_writers(self):

@@ -47,12 +47,15 @@ class RefusedTest(FolderNightTest):
         return seen
 
     def writer(self):
-        """The process that writes the record."""
+        """The process that writes the record for `live`; the spare has one too."""
+        live = self.number("pid")
         for each in Path("/proc").glob("[0-9]*/fd/1"):
             with contextlib.suppress(OSError):
                 if os.path.samefile(each, self.night / "record"):
-                    return int(each.parts[2])
-        return None
+                    told = (each.parents[1] / "status").read_text()
+                    if f"\nPPid:\t{live}\n" in told:
+                        return int(each.parts[2])
+        return self.fail("no writer")
 
 
 @unittest.skipUnless(resumes(), NO_RESUME)

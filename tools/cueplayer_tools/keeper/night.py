@@ -15,18 +15,20 @@ from cueplayer_tools.keeper.anew import begin_anew
 from cueplayer_tools.keeper.endings import Ending, Pace
 from cueplayer_tools.keeper.folder import Folder, open_file
 from cueplayer_tools.keeper.growth import Growth
+from cueplayer_tools.keeper.guard import Guard
 from cueplayer_tools.keeper.helpers import Helpers
 from cueplayer_tools.keeper.locks import await_lock, take_lock, write_number
 from cueplayer_tools.keeper.players import find_keeper, find_live
 from cueplayer_tools.keeper.processes import Process, Starter, find_policy, set_policy, wait_for
 from cueplayer_tools.keeper.show_copy import BEGIN
 from cueplayer_tools.keeper.spare import Spare
+from cueplayer_tools.keeper.stand_still import LOOK_EVERY
 from cueplayer_tools.keeper.streams import Failure
 from cueplayer_tools.keeper.unread import Unread
 from cueplayer_tools.keeper.update import take_update
 
-# How often lines are looked for that `live` has not read, and how often their file by its name.
-_LOOK_EVERY, _NAME_EVERY = 0.03, 1.0
+# How often lines are looked for that `live` has not read.
+_LOOK_EVERY = 0.03
 # For how long the lock of the record or of the night may be another's.
 _LOCK_PATIENCE = 1.0
 # How long what a `live` said last may be on the way.
@@ -74,6 +76,7 @@ class KeptNight:
         self.growth = Growth(folder.file("in"))
         found = find_live(folder)
         self.spare = Spare(folder, starter, self.tell)
+        self.guard = Guard(folder, self.spare, self.unread, self.tell)
         # Where the replies stood as `live` was started, whether it has begun, and whether there
         # was one that played.
         self.mark = 0
@@ -145,7 +148,7 @@ class KeptNight:
         written = self.growth.descriptors()
         is_told = written and len(ends) == len(processes) and self.unread.since is None
         is_settled = self.spare.refused is not None or self.spare.process is not None
-        seconds = _NAME_EVERY if is_told and is_settled else _LOOK_EVERY
+        seconds = LOOK_EVERY if is_told and is_settled else _LOOK_EVERY
         ready = wait_for(ends + written, seconds)
         if ready and not set(ready) & set(ends):
             wait_for(ends, _LOOK_EVERY)
@@ -160,6 +163,7 @@ class KeptNight:
             self._take_back()
             if self._has_begun():
                 self.spare.keep()
+                self.guard.look(self.live, self.spare.refused is None or self.options.begins)
             self._wait()
         status = self.live.status()
         if status == 0:

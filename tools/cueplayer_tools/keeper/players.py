@@ -1,5 +1,6 @@
 """Which processes play a night, stand by, and keep it, by the files of its folder."""
 
+import contextlib
 import os
 import time
 
@@ -43,6 +44,23 @@ def find_spare(folder: Folder) -> int | None:
     """The process that stands by."""
     found = find_number(folder, "spare")
     return found if is_live(folder, found) and found != find_live(folder) else None
+
+
+def find_writer(folder: Folder, live: int) -> int | None:
+    """The process that writes the record for `live`, of which it is a child; None where none
+    does. A spare has one too."""
+    try:
+        record = os.stat(folder.file("record"))
+    except OSError:
+        return None
+    for name in filter(str.isdigit, os.listdir("/proc")):
+        # It may end meanwhile, or be another user's.
+        with contextlib.suppress(OSError, IndexError):
+            if os.path.samestat(os.stat(f"/proc/{name}/fd/1"), record):
+                with open(f"/proc/{name}/stat", "rb") as file:
+                    if int(file.read().rpartition(b") ")[2].split()[1]) == live:
+                        return int(name)
+    return None
 
 
 def await_start(folder: Folder) -> None:

@@ -1,6 +1,9 @@
 """The spare of a night: the process that stands by, and the next one in its place."""
 
+import contextlib
+import os
 import re
+import signal
 import time
 from collections.abc import Callable
 
@@ -9,6 +12,7 @@ from cueplayer_tools.keeper.folder import Folder
 from cueplayer_tools.keeper.locks import find_holder, is_locked
 from cueplayer_tools.keeper.players import find_spare
 from cueplayer_tools.keeper.processes import LOOK_EVERY, Process, Starter, wait_for
+from cueplayer_tools.keeper.stand_still import STANDS, state_of
 
 _GOES_ON = re.compile(rb"^record: .*, goes on at ", re.MULTILINE)
 # For how long a spare may take to go on once nobody else has the record, in seconds; from when on
@@ -35,21 +39,36 @@ class Spare:
         # When the latest was started, and how long the one that refused took for it.
         self.began = self.took = 0.0
         self.pace = Pace()
+        # Whether none is to stand by; since when the one that does was seen to be stopped.
+        self.is_held = False
+        self.stopped: float | None = None
 
     def keep(self) -> None:
         """Has one stand by. One that went is replaced, and so is one that refused, but not while
         reading the record again and again would take a processor from the light."""
         if self.process is not None:
+            self._end_stopped(self.process.number)
             if self.process.has_ended():
                 self._end()
             elif self.refused is not None and not self._may_refuse():
                 self.refused = None
                 self.tell("a spare stands by again")
-        elif not self.pace.left() and time.monotonic() >= self.began + self.took / _SHARE:
+        elif not self.is_held and not self.pace.left() and time.monotonic() >= self.began + self.took / _SHARE:
             self.pace.count()
             self.began = time.monotonic()
             self.mark = self.folder.size("replies")
             self.process = self.starter.start("spare", "--spare", known=self.refused)
+
+    def _end_stopped(self, number: int) -> None:
+        """Ends it where it has been stopped for a second: it would not go on."""
+        now = time.monotonic()
+        if state_of(number) not in ("T", "t"):
+            self.stopped = None
+        elif self.stopped is None:
+            self.stopped = now
+        elif now - self.stopped >= STANDS:
+            with contextlib.suppress(OSError):
+                os.kill(number, signal.SIGKILL)
 
     def _may_refuse(self) -> bool:
         """Whether the one that was started may still refuse the record, as the last one did."""

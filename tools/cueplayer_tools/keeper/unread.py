@@ -35,7 +35,8 @@ class Unread:
         finally:
             os.close(file)
 
-    def _take(self) -> bytes:
+    def take_all(self) -> bytes:
+        """Takes back what lies there."""
         try:
             file = open_file(self.folder.file("in"), os.O_RDONLY)
         except OSError:
@@ -61,5 +62,5 @@ class Unread:
             self.since = now
         elif now - self.since >= _LATE and not self.is_taken_back:
             self.is_taken_back = True
-            return self._take()
+            return self.take_all()
         return None
