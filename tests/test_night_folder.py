@@ -101,7 +101,8 @@ class Goes(FolderNightTest):
         numbers = self.wait_for_level(128)
         for times in (1, 2):
             spare = self.spare()
-            self.assertIn(f"\na spare stands by: process {spare}\n", self.run_script("status").out)
+            told = f"\na spare stands by: process {spare}\n"
+            wait_for(lambda: told in self.run_script("status").out, told)
             numbers += [each[SEQUENCE] for each in self.came()]
             killed = self.kill("pid")
             self.assertEqual((0, ["ok"]), self.without_moments("sub", "1", f"H{199 + times:02X}"))

@@ -67,6 +67,11 @@ class SurroundingsTest(FolderNightTest):
             (tools / name).symlink_to(shutil.which(name))
         return {"PATH": str(tools)}
 
+    def wait_for_spare(self):
+        """Waits until a spare stands by, as it says."""
+        told = "\na spare stands by: process "
+        wait_for(lambda: told in self.run_script("status").out, "a spare")
+
     def assertGoesOn(self):
         """A night begins, is played, goes on where `live` and then all are killed, and is
         halted."""
@@ -83,6 +88,7 @@ class SurroundingsTest(FolderNightTest):
         self.wait_for_reply("it is started again, and goes on where it was$")
         self.assertEqual((0, ["ok"]), self.without_moments("sub", "1", "H92"))
         self.assertNumbered(numbers + self.wait_for_level(0x92))
+        self.wait_for_spare()
         status, out, err = self.run_script("status")
         self.assertEqual((0, ""), (status, err))
         self.assertIn(f"\nkept going by process {self.number('lock')}\n", out)
@@ -133,6 +139,7 @@ class Settings(SurroundingsTest):
     def test_no_tool(self):
         """Commands need none at all."""
         self.begin_night()
+        self.wait_for_spare()
         live, keeper = self.number("pid"), self.number("lock")
         self.environment |= self.only()
         self.assertEqual((0, ["ok", "cue 1"]), self.without_moments("go"))

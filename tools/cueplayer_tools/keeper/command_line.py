@@ -70,8 +70,9 @@ def _run(words: list[str], top: str) -> int:
     if job in ("status", "halt", "watch"):
         from cueplayer_tools.keeper import status
 
-        jobs = {"status": status.show_status, "halt": status.halt_night}
-        return jobs.get(job, status.watch_night)(folder)
+        if job == "status":
+            return status.show_status(folder, rest)
+        return status.halt_night(folder) if job == "halt" else status.watch_night(folder)
     raise refusal(f"no such command: {job}" if job else "no command")
 
 

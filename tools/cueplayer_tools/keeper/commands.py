@@ -85,17 +85,40 @@ def _await_turn(turn: int) -> None:
         take_lock(turn, _PATIENCE)
 
 
-def command_night(folder: Folder, line: str) -> int:
-    """Hands a command on, and prints its answer; its status. Commands of shells take turns, so
-    that each prints its own."""
-    if len(os.fsencode(line)) > _LONGEST or has_control(line):
-        raise refusal(f"a line has at most {_LONGEST} bytes")
+def _open_turn(folder: Folder) -> int:
+    """A file for turns; Failure where there is no night."""
     try:
         turn = open_file(folder.file("night"), os.O_RDONLY)
     except OSError:
         turn = -1
     if turn < 0 or not folder.is_fifo() or not folder.is_file("replies"):
+        if turn >= 0:
+            os.close(turn)
         raise Failure(f"no night in {folder.path}")
+    return turn
+
+
+def ask(folder: Folder, line: str) -> str | None:
+    """The answer to a line that has one alone; None where none comes within a second."""
+    turn = _open_turn(folder)
+    try:
+        _await_turn(turn)
+        start = folder.size("replies")
+        if folder.give(line):
+            for each in _lines_behind(folder, start, time.monotonic() + _PATIENCE):
+                if _is_answer(line, each):
+                    return each.decode("ascii", "replace")
+    finally:
+        os.close(turn)
+    return None
+
+
+def command_night(folder: Folder, line: str) -> int:
+    """Hands a command on, and prints its answer; its status. Commands of shells take turns, so
+    that each prints its own."""
+    if len(os.fsencode(line)) > _LONGEST or has_control(line):
+        raise refusal(f"a line has at most {_LONGEST} bytes")
+    turn = _open_turn(folder)
     try:
         _await_turn(turn)
         start = folder.size("replies")

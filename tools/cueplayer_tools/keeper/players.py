@@ -46,6 +46,22 @@ def find_spare(folder: Folder) -> int | None:
     return found if is_live(folder, found) and found != find_live(folder) else None
 
 
+def reads_record(folder: Folder, number: int) -> bool:
+    """Whether a process has the record open to read it, as the script that starts the program has
+    not."""
+    # A file may be closed meanwhile, and the process be another user's.
+    with contextlib.suppress(OSError):
+        record = os.stat(folder.file("record"))
+        for name in os.listdir(f"/proc/{number}/fd"):
+            with contextlib.suppress(OSError, ValueError):
+                if os.path.samestat(os.stat(f"/proc/{number}/fd/{name}"), record):
+                    with open(f"/proc/{number}/fdinfo/{name}", encoding="ascii") as file:
+                        flags = int(file.read().partition("flags:")[2].split()[0], 8)
+                    if flags & os.O_ACCMODE != os.O_WRONLY:
+                        return True
+    return False
+
+
 def find_writer(folder: Folder, live: int) -> int | None:
     """The process that writes the record for `live`, of which it is a child; None where none
     does. A spare has one too."""

@@ -1,101 +1,58 @@
 """What is told of a night: its status, its replies as they come, and that it was halted."""
 
+import json
 import os
-import re
 import time
 
-from cueplayer_tools.keeper.commands import command_night
 from cueplayer_tools.keeper.folder import Folder
 from cueplayer_tools.keeper.growth import Follower
+from cueplayer_tools.keeper.health import Health
 from cueplayer_tools.keeper.players import await_start, find_keeper, find_live, find_spare
 from cueplayer_tools.keeper.processes import put_down
-from cueplayer_tools.keeper.streams import Failure, complain, reason, show, show_line
+from cueplayer_tools.keeper.streams import Failure, complain, reason, refusal, show, show_line
 
-_HEAD = 4096
-_STARTED = re.compile(rb"! .*started (.*)")
-_RESTART = re.compile(rb"night: .* goes on where it was")
-# What tells of no trouble: answers, and what is said at a start.
-_USUAL = re.compile(
-    rb"[0-9]+ (?:ok|refused|cue|where)\b|line refused: |keys ignored"
-    rb"|show: [0-9]+ cue|sends: |target: |from |other cards: |record: /|end ends the night"
-    rb"|night: .* (?:keeps the night:|takes hold of the night|the night has ended)"
-)
-_MOST_TROUBLE = 5
 # How many of the last lines `watch` begins with, and how often it looks for another file.
 _MOST_WATCHED, _LOOK_EVERY = 20, 0.5
 _PART = 1 << 16
 
 
-def _since(folder: Folder) -> str:
-    """When `live` was started."""
-    try:
-        written = os.stat(folder.file("pid")).st_mtime
-    except OSError:
-        return ""
-    return time.strftime("%Y-%m-%d %H:%M:%S", time.localtime(written))
-
-
-def _show_players(folder: Folder, live: int | None) -> None:
+def _show_players(health: Health) -> None:
     """Shows who plays the night, and who keeps it."""
-    start = f"`cueplayer-night {folder.path} start`"
-    if live is not None:
-        show_line(f"live is process {live}, since {_since(folder)}")
-    elif folder.has_ended():
+    start = f"`cueplayer-night {health.folder.path} start`"
+    if health.live is not None:
+        show_line(f"live is process {health.live}, since {health.since or 'an unknown time'}")
+    elif health.has_ended:
         show_line("the night has ended")
     else:
         show_line(f"no live plays the night: {start} goes on with it")
-    keeper = find_keeper(folder)
-    if keeper is not None:
-        show_line(f"kept going by process {keeper}")
-    elif live is not None:
-        show_line(f"nothing keeps it going: {start} takes hold of it")
+    if health.keeper is not None:
+        show_line(f"kept going by process {health.keeper}")
+    if health.began is not None:
+        show_line(f"began: {health.began}")
+    if health.spare is not None:
+        show_line(f"a spare stands by: process {health.spare}")
+    show_line(f"restarts: {health.restarts}")
+    if health.place is not None:
+        show_line(health.place)
 
 
-def _show_start(folder: Folder) -> None:
-    """Shows when the night began, by the second line of its record."""
-    lines = folder.read("record", 0, _HEAD).split(b"\n")
-    if len(lines) > 1 and (found := _STARTED.match(lines[1])):
-        show(b"began: " + found[1] + b"\n")
-
-
-def _restarts_and_trouble(folder: Folder) -> tuple[int, list[bytes]]:
-    """How often the night had to go on, and the last lines of the replies that tell of trouble."""
-    count = 0
-    trouble: list[bytes] = []
-    try:
-        with open(folder.file("replies"), "rb", opener=_opener) as file:
-            for line in file:
-                count += _RESTART.match(line) is not None
-                if not _USUAL.match(line):
-                    trouble = [*trouble[1 - _MOST_TROUBLE :], line.rstrip(b"\n")]
-    except OSError:
-        # It is told as far as it can be read.
-        pass
-    return count, trouble
-
-
-def _opener(path: str, flags: int) -> int:
-    return os.open(path, flags | os.O_NONBLOCK)
-
-
-def show_status(folder: Folder) -> int:
-    """Shows how the night is; 0 where it is played."""
+def show_status(folder: Folder, given: list[str]) -> int:
+    """Shows how the night is; 0 where all is well with it."""
+    if given not in ([], ["--json"]):
+        raise refusal("status wants nothing, or --json")
     if not folder.is_file("night"):
         raise Failure(f"no night in {folder.path}")
-    live = find_live(folder)
-    _show_players(folder, live)
-    _show_start(folder)
-    spare = find_spare(folder)
-    if spare is not None:
-        show_line(f"a spare stands by: process {spare}")
-    show_line(f"restarts: {_restarts_and_trouble(folder)[0]}")
-    if live is not None:
-        command_night(folder, "where")
-    _, trouble = _restarts_and_trouble(folder)
-    if trouble:
-        show_line(f"trouble, the last lines of {folder.file('replies')}:")
-        show(b"".join(b"  " + line + b"\n" for line in trouble))
-    return 0 if live is not None else 1
+    health = Health(folder)
+    if given:
+        show_line(json.dumps(health.as_json()))
+        return health.status()
+    _show_players(health)
+    for each in health.trouble:
+        show_line(f"trouble{'' if each.since is None else f' since {each.since}'}: {each.text}")
+    if health.events:
+        show_line(f"what happened last, in {folder.file('replies')}:")
+        show(b"".join(b"  " + os.fsencode(line) + b"\n" for line in health.events))
+    return health.status()
 
 
 def halt_night(folder: Folder) -> int:

@@ -1,0 +1,143 @@
+"""How a night is, as far as a look from outside can tell: who plays and keeps it, and what is wrong.
+
+What leaves the machine is not seen here. That `live` sends is told from its record, in which each
+tick stands before it is carried out, and from its own lines on cards, routes and lost packets.
+"""
+
+import os
+import re
+import time
+
+from cueplayer_tools.keeper.commands import ask
+from cueplayer_tools.keeper.folder import Folder
+from cueplayer_tools.keeper.players import find_keeper, find_live, find_spare, reads_record
+from cueplayer_tools.keeper.stand_still import state_of, work_of
+from cueplayer_tools.keeper.troubles import (
+    KEEPER,
+    LATELY,
+    LIGHT,
+    OTHER,
+    RECORD,
+    SPARE,
+    Trouble,
+    read_story,
+)
+
+# The exit status of each kind of trouble, the worst first.
+STATUSES = {LIGHT: 3, RECORD: 4, SPARE: 5, KEEPER: 6, OTHER: 7}
+STOPPED = 1
+_HEAD = 4096
+_STARTED = re.compile(rb"! .*started (.*)")
+_PLACE = re.compile(r"(\d+) where(?: cue (\S+))?(?: next (\S+))? master (\d+)(?: .*)?")
+# For how long the record may not grow, and how often it is looked at, in seconds.
+_PATIENCE, _LOOK_EVERY = 1.0, 0.02
+
+
+class Health:
+    """What was seen of a night in a look of a second at most."""
+
+    def __init__(self, folder: Folder) -> None:
+        self.folder = folder
+        self.live = find_live(folder)
+        self.since = None if self.live is None else _written(folder, "pid")
+        self.keeper, self.spare = find_keeper(folder), find_spare(folder)
+        self.has_ended = self.live is None and folder.has_ended()
+        self.began = _start_of(folder)
+        # What is found by looking, before what the replies tell.
+        self.trouble: list[Trouble] = []
+        self.place: str | None = None
+        if self.live is not None:
+            self._look_at_live(self.live)
+            self._look_at_others()
+        story = read_story(folder)
+        self.restarts, self.events = story.restarts, story.events
+        if self.live is not None and story.lost is not None and self._is_lately(story.lost):
+            told = "packets are lost: the replies say of which universes"
+            self.trouble.append(Trouble(LIGHT, None, told))
+        told_kinds = {each.kind for each in story.open.values()}
+        if SPARE in told_kinds or RECORD in told_kinds:
+            # The lines say why.
+            self.trouble = [each for each in self.trouble if each.kind not in told_kinds]
+        self.trouble += [] if self.has_ended else story.open.values()
+
+    def _look_at_live(self, live: int) -> None:
+        """Looks whether it plays: whether its record grows, and whether it answers."""
+        size, work = self.folder.size("record"), work_of(live)
+        until = time.monotonic() + _PATIENCE
+        self.place = ask(self.folder, "where")
+        while self.folder.size("record") == size and time.monotonic() < until:
+            time.sleep(_LOOK_EVERY)
+        named = f"live (process {live})"
+        if self.folder.size("record") == size:
+            if not state_of(live):
+                self.trouble.append(Trouble(LIGHT, None, f"{named} has just ended"))
+            elif state_of(live) in ("T", "t", "D") or work_of(live) == work:
+                self.trouble.append(Trouble(LIGHT, None, f"{named} stands still"))
+            else:
+                told = f"the record does not grow, and {named} plays on"
+                self.trouble.append(Trouble(RECORD, None, told))
+        elif self.place is None:
+            self.trouble.append(Trouble(OTHER, None, f"{named} does not answer"))
+
+    def _look_at_others(self) -> None:
+        if self.spare is None:
+            self.trouble.append(Trouble(SPARE, None, "no spare stands by"))
+        elif state_of(self.spare) in ("T", "t") or not reads_record(self.folder, self.spare):
+            told = f"the spare (process {self.spare}) does not read the record"
+            self.trouble.append(Trouble(SPARE, None, f"{told}: it is just started, or stands still"))
+            self.spare = None
+        start = f"`cueplayer-night {self.folder.path} start` takes hold of it"
+        if self.keeper is None:
+            self.trouble.append(Trouble(KEEPER, None, f"nothing keeps it going: {start}"))
+        elif state_of(self.keeper) in ("T", "t"):
+            told = f"what keeps it going (process {self.keeper}) stands still"
+            self.trouble.append(Trouble(KEEPER, None, f"{told}: `kill -CONT {self.keeper}`"))
+
+    def _is_lately(self, moment: int) -> bool:
+        found = _PLACE.fullmatch(self.place or "")
+        return found is not None and int(found[1]) - moment < LATELY
+
+    def status(self) -> int:
+        """The exit status: 0 where all is well, else that of the worst."""
+        if self.live is None:
+            return STOPPED
+        return min((STATUSES[each.kind] for each in self.trouble), default=0)
+
+    def as_json(self) -> dict[str, object]:
+        """For a program that watches nights."""
+        found = _PLACE.fullmatch(self.place or "")
+        place = None
+        if found is not None:
+            cue, following, master = found[2], found[3], int(found[4])
+            place = {"moment": int(found[1]), "cue": cue, "next": following, "master": master}
+        state = "played" if self.live is not None else "ended" if self.has_ended else "stopped"
+        return {
+            "night": self.folder.path,
+            "state": state,
+            "status": self.status(),
+            "live": self.live,
+            "since": self.since,
+            "keeper": self.keeper,
+            "spare": self.spare,
+            "began": self.began,
+            "restarts": self.restarts,
+            "where": place,
+            "trouble": [each._asdict() for each in self.trouble],
+            "last": self.events,
+        }
+
+
+def _written(folder: Folder, name: str) -> str | None:
+    """When a file was written last."""
+    try:
+        written = os.stat(folder.file(name)).st_mtime
+    except OSError:
+        return None
+    return time.strftime("%Y-%m-%d %H:%M:%S", time.localtime(written))
+
+
+def _start_of(folder: Folder) -> str | None:
+    """When the night began, by the second line of its record."""
+    lines = folder.read("record", 0, _HEAD).split(b"\n")
+    found = _STARTED.match(lines[1]) if len(lines) > 1 else None
+    return None if found is None else found[1].decode("ascii", "replace")
