@@ -2,7 +2,7 @@
 
 import os
 
-from cueplayer_tools.keeper.folder import Folder, whole_path
+from cueplayer_tools.keeper.folder import UNSEEN, Folder, whole_path
 from cueplayer_tools.keeper.streams import (
     Failure,
     complain,
@@ -38,6 +38,9 @@ on at once.
 Status 0: done. 1: not done, or refused. 2: other words than these. `start` ends with the status of
 `live`.
 """
+# What a command has to look into, and one that tells who plays.
+_GIVEN = ("night", "in", "replies")
+_LOOKS, _LOOKED = ("start", "make", "halt", "status"), (*_GIVEN, "lock", "pid", "spare", "record")
 _COMMANDS = ("go", "back", "goto", "sub", "group", "master", "where", "end", "leave")
 
 
@@ -50,6 +53,7 @@ def _run(words: list[str], top: str) -> int:
         raise refusal("name the folder NIGHT first")
     folder = Folder(whole_path(words[0]))
     job, rest = words[1] if len(words) > 1 else "", words[2:]
+    folder.check_seen(UNSEEN if job == "status" else 1, *(_LOOKED if job in _LOOKS else _GIVEN))
     if job in _COMMANDS or job == "stop":
         from cueplayer_tools.keeper.commands import command_night
 
@@ -79,6 +83,8 @@ def _run(words: list[str], top: str) -> int:
 def main(words: list[str], top: str) -> int:
     """Runs the tool with these words, beside `cueplayer` in this folder; its exit status."""
     hold_streams()
+    # A night is nobody else's: who may read its lock may hold it.
+    os.umask(0o077)
     try:
         return _run(words, top)
     except Failure as failure:

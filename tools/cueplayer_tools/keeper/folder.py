@@ -11,11 +11,13 @@ from cueplayer_tools.keeper.streams import Failure, reason
 _LAST_LINES = 4096
 # What a write into a pipe takes whole, or not at all.
 MOST_OF_A_LINE = 4096
+# The exit status of `status` where it may not look.
+UNSEEN = 8
 
 
 def open_file(path: str, flags: int) -> int:
     """Opens a file, and waits for nobody: the name may be that of a FIFO."""
-    return os.open(path, flags | os.O_NONBLOCK | os.O_NOCTTY, 0o666)
+    return os.open(path, flags | os.O_NONBLOCK | os.O_NOCTTY, 0o600)
 
 
 def whole_path(name: str) -> str:
@@ -36,6 +38,16 @@ def take_free_lock(file: int) -> bool:
         return False
 
 
+def user_of(number: int) -> str:
+    """Whose a file or a process of this user's number is."""
+    import pwd
+
+    try:
+        return f"{pwd.getpwuid(number).pw_name}'s"
+    except KeyError:
+        return f"of the user with the number {number}"
+
+
 class Folder:
     """A folder in which a night is played, was, or is to be."""
 
@@ -44,6 +56,36 @@ class Folder:
 
     def file(self, name: str) -> str:
         return os.path.join(self.path, name)
+
+    def check_seen(self, status: int, *names: str) -> None:
+        """Fails with this status where these files are another user's: then whatever was told of
+        the night, as that nothing plays it, would be made up."""
+        for name in ("", *names):
+            path = self.file(name) if name else self.path
+            flags = os.O_WRONLY if name == "in" else os.O_RDONLY
+            try:
+                os.close(open_file(path, flags))
+            except PermissionError as fault:
+                raise self.hidden(path, status) from fault
+            except OSError:
+                # There is none, or no `live` reads it.
+                continue
+
+    def hidden(self, path: str, status: int = 1) -> Failure:
+        """That it cannot be seen who plays the night, since a file or a process is another's."""
+        try:
+            owner = user_of(os.stat(path).st_uid)
+        except OSError:
+            owner = "another user's"
+        told = f"{path} is {owner}: who plays the night in {self.path} cannot be seen from here"
+        return Failure(f"{told}; be that user, or root", status)
+
+    def has_reader(self) -> bool:
+        """Whether a process reads the FIFO."""
+        file = self.open_fifo()
+        if file is not None:
+            os.close(file)
+        return file is not None
 
     def is_file(self, name: str) -> bool:
         return os.path.isfile(self.file(name))

@@ -2,6 +2,7 @@
 
 import contextlib
 import os
+import stat
 import time
 
 from cueplayer_tools.keeper.folder import Folder, whole_path
@@ -10,6 +11,8 @@ from cueplayer_tools.keeper.players import find_live
 from cueplayer_tools.keeper.show_copy import BEGIN, NEXT
 from cueplayer_tools.keeper.streams import Failure, has_control, reason, refusal
 
+# The files of a night, and what those begin with that were kept.
+_NAMES = ("night", "in", "replies", "lock", "pid", "spare", "record", "show", "show.next", "begin")
 # For how long a keeper may take to go once its night has ended, in seconds.
 _PATIENCE = 1.0
 
@@ -88,8 +91,21 @@ def make_folder(folder: Folder, words: list[str]) -> None:
         _write(folder.file("replies"), b"")
 
 
+def _close(folder: Folder) -> None:
+    """Takes the files of a night from others, as an older version left them, and the folder where
+    it has nothing else."""
+    names = os.listdir(folder.path)
+    ours = [name for name in names if name.partition("-")[0] in _NAMES]
+    for name in ours if len(ours) < len(names) else [*ours, ""]:
+        path = folder.file(name)
+        mode = stat.S_IMODE(os.lstat(path).st_mode)
+        is_link = os.path.islink(path)
+        if mode & 0o077 and not is_link and os.lstat(path).st_uid == os.geteuid():
+            os.chmod(path, mode & 0o700)
+
+
 def make_files(folder: Folder) -> None:
-    """Makes the files that a night is played by."""
+    """Makes the files that a night is played by. They are nobody else's."""
     if not folder.is_fifo():
         try:
             os.mkfifo(folder.file("in"))
@@ -99,5 +115,6 @@ def make_files(folder: Folder) -> None:
         for name in ("replies", "lock"):
             with open(folder.file(name), "ab"):
                 pass
+        _close(folder)
     except OSError as fault:
         raise Failure(f"cannot write in {folder.path}: {reason(fault)}") from fault

@@ -6,6 +6,7 @@ import time
 
 from cueplayer_tools.keeper.folder import Folder
 from cueplayer_tools.keeper.locks import is_locked
+from cueplayer_tools.keeper.streams import Failure
 
 # For how long the number of a process that has a lock may still be missing, and how often it is
 # looked for, in seconds.
@@ -29,15 +30,38 @@ def is_live(folder: Folder, number: int | None) -> bool:
     return os.path.samestat(there, fifo)
 
 
+def _check_seen(folder: Folder, numbers: list[int | None]) -> None:
+    """Fails where a process reads the FIFO that is not to be seen, as another user's."""
+    for number in numbers:
+        try:
+            os.stat(f"/proc/{number}/fd/0")
+        except PermissionError as fault:
+            if folder.has_reader():
+                raise folder.hidden(f"/proc/{number}") from fault
+        except OSError:
+            continue
+    until = time.monotonic() + _PATIENCE
+    # One that has just ended may still be there, and a keeper looks into the FIFO now and then.
+    while folder.has_reader():
+        if time.monotonic() > until:
+            told = f"a process that cannot be seen from here reads {folder.file('in')}"
+            raise Failure(f"{told}: be root to see who plays the night in {folder.path}")
+        time.sleep(_LOOK_EVERY)
+
+
 def find_live(folder: Folder) -> int | None:
-    """The process that plays the night. The spare plays it where no other does."""
+    """The process that plays the night. The spare plays it where no other does. Failure where
+    that cannot be seen."""
     found, standby = find_number(folder, "pid"), find_number(folder, "spare")
     if is_live(folder, found):
         return found
     for name in os.listdir("/proc"):
         if name.isdigit() and int(name) != standby and is_live(folder, int(name)):
             return int(name)
-    return standby if is_live(folder, standby) else None
+    if is_live(folder, standby):
+        return standby
+    _check_seen(folder, [found, standby])
+    return None
 
 
 def find_spare(folder: Folder) -> int | None:

@@ -4,7 +4,7 @@ import json
 import os
 import time
 
-from cueplayer_tools.keeper.folder import Folder
+from cueplayer_tools.keeper.folder import UNSEEN, Folder
 from cueplayer_tools.keeper.growth import Follower
 from cueplayer_tools.keeper.health import Health
 from cueplayer_tools.keeper.players import await_start, find_keeper, find_live, find_spare
@@ -42,7 +42,10 @@ def show_status(folder: Folder, given: list[str]) -> int:
         raise refusal("status wants nothing, or --json")
     if not folder.is_file("night"):
         raise Failure(f"no night in {folder.path}")
-    health = Health(folder)
+    try:
+        health = Health(folder)
+    except Failure as failure:
+        raise Failure(str(failure), UNSEEN) from failure
     if given:
         show_line(json.dumps(health.as_json()))
         return health.status()
