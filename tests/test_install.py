@@ -6,6 +6,8 @@ import resource
 import shutil
 import stat
 import sys
+import tempfile
+from pathlib import Path
 
 from copied_layout import MADE, SHOWN, CopiedLayout
 from program import PROGRAM, TOP
@@ -18,6 +20,7 @@ SCRIPTS = ("cueplayer", "cueplayer-night")
 NAMES = ("cueplayer-night", "install", "manifest", "README.md", "CHANGELOG.md", "LICENSE")
 STARTERS = tuple(f"bin/{name}" for name in (*SCRIPTS, *(f"cueplayer-{tool}" for tool in TOOLS)))
 LIST = "lib/cueplayer/installed"
+UNITS = ("cueplayer-night@", "cueplayer-desk@", "sacn-join@")
 # Written anew: where it was installed from, what was installed, and what starts it.
 MADE_ANEW = ("lib/cueplayer/dist/COMMIT", LIST, *STARTERS)
 
@@ -119,6 +122,30 @@ class Install(CopiedLayout):
         for name in STARTERS:
             self.assertIn(f"installed {self.prefix / name}\n", out)
         self.assertIn("is not on PATH", out)
+
+    def test_units(self):
+        """They name the programs of the prefix, which a unit can name; --remove takes them too."""
+        plain = tempfile.TemporaryDirectory()
+        self.addCleanup(plain.cleanup)
+        prefix = Path(plain.name, "prefix")
+        out = self.install("--units", prefix)
+        self.assertIn("systemd-sysusers; systemctl daemon-reload", out)
+        odd, self.prefix = self.prefix, prefix
+        units = {f"lib/systemd/system/{name}.service": f"tools/{name}.service" for name in UNITS}
+        self.assertEqual(
+            sorted([*self.files(), *units, "lib/sysusers.d/cueplayer.conf"]), files(prefix)
+        )
+        for name, source in units.items():
+            wanted = (self.top / source).read_text().replace("=/usr/bin/", f"={prefix}/bin/")
+            wanted = wanted.replace("=-/usr/bin/", f"=-{prefix}/bin/")
+            self.assertEqual(wanted, (prefix / name).read_text())
+        self.install(prefix)
+        self.assertEqual(self.files(), files(prefix))
+        self.install("--units", prefix)
+        self.install("--remove", prefix)
+        self.assertFalse(prefix.exists())
+        self.prefix = odd
+        self.assertFails("--units", odd, telling="name a folder of plain letters")
 
     def test_tools(self):
         """Each starts, tells its use, and leaves nothing behind; without Python it says so."""

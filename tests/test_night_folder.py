@@ -3,16 +3,13 @@
 import os
 import random
 import re
-import shutil
 import signal
 import subprocess
-import tempfile
 import threading
 import time
 import unittest
 
 from folders import NIGHT, FolderNightTest, resumes
-from program import TOP
 from tooling import PATIENCE, stand_still, wait_for
 from wire import SEQUENCE, terminal
 
@@ -622,24 +619,3 @@ class Words(FolderNightTest):
         self.assertEqual({"night", "in", "lock", "replies"}, names)
         self.assertEqual(1, self.run_script("status").status)
         self.assertIn("nothing was sent; `start` goes on with it", self.run_script("go").err)
-
-
-class Unit(unittest.TestCase):
-    UNIT = TOP / "tools/cueplayer-night@.service"
-
-    def test_words(self):
-        """What it starts and stops are commands of the script, over the instance's path."""
-        form = r"(?m)^Exec(Start|Stop)=-?/usr/bin/cueplayer-night %f (\w+)$"
-        lines = re.findall(form, self.UNIT.read_text())
-        self.assertEqual([("Start", "start"), ("Stop", "halt")], lines)
-
-    @unittest.skipUnless(shutil.which("systemd-analyze"), "systemd-analyze is not on PATH")
-    def test_verified(self):
-        unit = self.UNIT.read_text().replace("/usr/bin/cueplayer-night", str(NIGHT))
-        with tempfile.TemporaryDirectory() as folder:
-            name = f"{folder}/cueplayer-night@home-ada-tonight.service"
-            with open(name, "w", encoding="utf-8") as file:
-                file.write(unit)
-            words = ["systemd-analyze", "verify", name]
-            done = subprocess.run(words, capture_output=True, text=True, timeout=PATIENCE)
-        self.assertEqual((0, "", ""), (done.returncode, done.stdout, done.stderr))

@@ -159,7 +159,7 @@ class Made(Package):
         self.assertFalse((root / "usr").exists())
 
     def test_contents(self):
-        """A manual page for each program, completion, documents, examples and the unit of
+        """A manual page for each program, completion, documents, examples and the units of
         systemd."""
         (package,) = self.make(TOP, "made").glob("*.deb")
         root = self.folder / "root"
@@ -180,9 +180,9 @@ class Made(Package):
         wanted |= {
             f"usr/share/bash-completion/completions/cueplayer{part}" for part in ("", "-night")
         }
-        wanted |= {
-            f"usr/lib/systemd/system/{unit}@.service" for unit in ("sacn-join", "cueplayer-night")
-        }
+        units = ("sacn-join", "cueplayer-night", "cueplayer-desk")
+        wanted |= {f"usr/lib/systemd/system/{unit}@.service" for unit in units}
+        wanted |= {"usr/lib/sysusers.d/cueplayer.conf"}
         wanted |= {"usr/share/man/man5/cueplayer-show.5.gz"}
         self.assertEqual(set(), wanted - found)
         self.assertEqual(

@@ -18,12 +18,12 @@ class Growth:
     def __init__(self, *paths: str) -> None:
         self.descriptor: int | None = None
         try:
-            # A Python may have been built without it.
+            # A Python may have been built without it; a hardened system may refuse its memory.
             import ctypes
 
             library = ctypes.CDLL(None)
             descriptor = int(library.inotify_init1(os.O_NONBLOCK | os.O_CLOEXEC))
-        except (ImportError, OSError, AttributeError):
+        except (ImportError, OSError, AttributeError, MemoryError):
             return
         if descriptor < 0:
             return
