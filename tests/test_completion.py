@@ -156,7 +156,8 @@ class Night(CompletionTest):
         self.assertCompletes(["nights", "start", "ni"], "night.asc", "nine shows.asc")
         self.assertCompletes(["nights", "start", "x", ""])
         self.assertCompletes(["nights", "start", "x", "--"], *options)
-        self.assertCompletes(["nights", "make", "x", "--"], *(options - {"--background", "--if-refused"}))
+        own = {"--background", "--if-refused"}
+        self.assertCompletes(["nights", "make", "x", "--"], *(options - own))
         self.assertCompletes(["nights", "start", "x", "--to", ""], "239.255.0.0")
         self.assertCompletes(["nights", "start", "x", "--cid", "n"])
         self.assertCompletes(["nights", "start", "x", "--to", "y", "--"], *options)

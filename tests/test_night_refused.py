@@ -3,7 +3,6 @@ in the cue in which it was."""
 
 import contextlib
 import os
-import re
 import signal
 import time
 import unittest
@@ -144,7 +143,8 @@ class Anew(RefusedTest):
         self.came()
         status, out, _ = self.run_script("start", "--background", "--if-refused", "begin")
         self.assertEqual(0, status, out)
-        self.assertRegex(out, "record: line .*: the night begins anew in cue 3, its masters at full")
+        told = "record: line .*: the night begins anew in cue 3, its masters at full"
+        self.assertRegex(out, told)
         (kept,) = self.night.glob("record-refused-*")
         self.assertEqual(damaged, kept.read_bytes())
         self.assertIn(kept.name, out)

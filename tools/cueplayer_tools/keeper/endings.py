@@ -101,8 +101,8 @@ class Ending:
         if self._is_cid():
             return f"another live has this CID: end that one; {AGAIN}"
         if self.has_told(b"record: in use"):
-            told = "the record is still written for a live that is gone: the disk stalls, or is slow"
-            return f"{told}; {AGAIN}"
+            told = "the record is still written for a live that is gone"
+            return f"{told}: the disk stalls, or is slow; {AGAIN}"
         if self.has_no_record():
             told = f"live refused to begin, with status {self.status}: the lines above say why"
             begins = "to begin in the last cue, `halt`, and `start --if-refused begin`"

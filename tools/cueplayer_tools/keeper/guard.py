@@ -49,8 +49,8 @@ class Guard:
             if may_end:
                 self._end(live, watch.number)
             else:
-                told = f"{live} stands still, and no spare can go on"
-                self.tell(f"{told}: `kill -CONT {watch.number}`, or put back the record or the show")
+                told = f"{live} stands still, and no spare can go on: `kill -CONT {watch.number}`"
+                self.tell(f"{told}, or put back the record or the show")
         elif self.is_still and not watch.stands_still():
             self.is_still = False
             self.tell(f"{live} runs again")

@@ -1,4 +1,4 @@
-"""How a night is, as far as a look from outside can tell: who plays and keeps it, and what is wrong.
+"""How a night is, as far as a look can tell: who plays and keeps it, and what is wrong.
 
 What leaves the machine is not seen here. That `live` sends is told from its record, in which each
 tick stands before it is carried out, and from its own lines on cards, routes and lost packets.
@@ -83,8 +83,9 @@ class Health:
         if self.spare is None:
             self.trouble.append(Trouble(SPARE, None, "no spare stands by"))
         elif state_of(self.spare) in ("T", "t") or not reads_record(self.folder, self.spare):
-            told = f"the spare (process {self.spare}) does not read the record"
-            self.trouble.append(Trouble(SPARE, None, f"{told}: it is just started, or stands still"))
+            why = "it is just started, or stands still"
+            told = f"the spare (process {self.spare}) does not read the record: {why}"
+            self.trouble.append(Trouble(SPARE, None, told))
             self.spare = None
         start = f"`cueplayer-night {self.folder.path} start` takes hold of it"
         if self.keeper is None:

@@ -53,11 +53,16 @@ class Spare:
             elif self.refused is not None and not self._may_refuse():
                 self.refused = None
                 self.tell("a spare stands by again")
-        elif not self.is_held and not self.pace.left() and time.monotonic() >= self.began + self.took / _SHARE:
+        elif self._may_start():
             self.pace.count()
             self.began = time.monotonic()
             self.mark = self.folder.size("replies")
             self.process = self.starter.start("spare", "--spare", known=self.refused)
+
+    def _may_start(self) -> bool:
+        """Whether another one may be started now."""
+        is_due = time.monotonic() >= self.began + self.took / _SHARE
+        return is_due and not self.is_held and not self.pace.left()
 
     def _end_stopped(self, number: int) -> None:
         """Ends it where it has been stopped for a second: it would not go on."""
