@@ -513,7 +513,8 @@ class Stubbed(FolderNightTest):
     def test_each_second(self):
         """What does not begin is tried for ever, no more often than each second, and told once."""
         for status, said in ((2, "refused to begin, with status 2"), (3, "with status 3"),
-                             (5, "does not begin"), (134, "does not begin")):  # fmt: skip
+                             (5, "ended with status 5 before it played"),
+                             (134, "was ended by SIGABRT before it played")):  # fmt: skip
             with self.subTest(status):
                 self.night = self.folder / f"night {status}"
                 self.assertEqual(0, self.run_script("make", *self.words).status)
@@ -563,8 +564,8 @@ class Stubbed(FolderNightTest):
                 keeper.out.find(".*live waits for its network card")
                 self.assertIn(said, self.run_script("status").out)
                 # It would try again while the next one begins.
-                os.killpg(keeper.process.pid, signal.SIGKILL)
-                keeper.process.wait()
+                self.assertEqual(0, self.run_script("halt").status)
+                keeper.process.wait(PATIENCE)
 
     def test_card_that_comes(self):
         """It is told once, and what comes of it is that of any other night."""

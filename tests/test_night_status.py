@@ -45,6 +45,8 @@ PAIRS = (
     (f"{AT}{SHOW}", "spare", SINCE, f"{AT}a spare stands by again"),
     (f"{AT}{STILL}", "light", SINCE, f"{AT}{SPARE_GOES_ON}"),
     (f"{AT}{REFUSED}", "light", SINCE, START[1]),
+    (f"{AT}live (process 7) was ended by SIGABRT before it played: the lines above", "light",
+     SINCE, START[1]),
     (f"{AT}live waits for its network card: the line above says why", "light", SINCE, START[1]),
 )  # fmt: skip
 

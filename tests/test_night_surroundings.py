@@ -180,7 +180,7 @@ class Files(SurroundingsTest):
         self.assertEqual(1, self.run_script("go").status)
 
     def test_other_files_that_are_fifos(self):
-        for name in ("replies", "lock", "pid", "spare"):
+        for name in ("replies", "lock", "pid", "spare", "show", "show.next", "begin"):
             with self.subTest(name):
                 self.night = self.folder / f"a night with {name}"
                 self.assertEqual(0, self.run_script("make", *self.words).status)

@@ -18,6 +18,7 @@ from pathlib import Path
 from cueplayer_tools.keeper.folder import Folder
 from cueplayer_tools.keeper.locks import is_locked
 from cueplayer_tools.keeper.show_copy import COPY
+from cueplayer_tools.keeper.streams import Failure
 from cueplayer_tools.program import keeper
 from cueplayer_tools.words import Refused, printable
 
@@ -127,6 +128,10 @@ class NightFolder:
 
     def refusal(self) -> str:
         """Why no line is taken, and what to do."""
+        try:
+            self.folder.check_seen(1, "night", "in", "replies")
+        except Failure as failure:
+            return str(failure)
         start = f"`cueplayer-night {self.path} start`"
         return f"no live plays the night in {self.path}: {start} goes on with it"
 

@@ -16,6 +16,7 @@ _RECORD = re.compile(rb"^record: (?!in use|the night has ended|device fault|/)(.
 _BEGUN = b"end ends the night"
 # How far starts are apart at least, in seconds: each gets what processor it wants.
 _APART = 1.0
+_PROCESS = re.compile(r"process \d+")
 AGAIN = "tried again each second; `halt` ends that"
 
 
@@ -32,6 +33,11 @@ class Pace:
     def count(self) -> None:
         """Counts one."""
         self.last = time.monotonic()
+
+
+def is_same(told: str, before: str | None) -> bool:
+    """Whether two starts failed for the same reason."""
+    return before is not None and _PROCESS.sub("", told) == _PROCESS.sub("", before)
 
 
 def signal_name(number: int) -> str:
@@ -110,7 +116,7 @@ class Ending:
         if self.status in (2, 3, 4):
             told = f"live refused to begin, with status {self.status}"
             return f"{told}: the lines above say why; {AGAIN}"
-        return f"live does not begin: the lines above say why; {AGAIN}"
+        return f"{self.words()} before it played: the lines above say why; {AGAIN}"
 
     def _is_cid(self) -> bool:
         return self.has_told(b"another console on this machine sends under this CID")

@@ -12,7 +12,7 @@ import time
 from typing import NamedTuple
 
 from cueplayer_tools.keeper.anew import begin_anew
-from cueplayer_tools.keeper.endings import Ending, Pace
+from cueplayer_tools.keeper.endings import Ending, Pace, is_same
 from cueplayer_tools.keeper.folder import Folder, open_file
 from cueplayer_tools.keeper.growth import Growth
 from cueplayer_tools.keeper.guard import Guard
@@ -194,7 +194,7 @@ class KeptNight:
             self.tell(f"{ending.words()}: it is started again, and goes on where it was")
             return
         is_anew, trouble = self._find_trouble(ending)
-        if trouble != self.trouble:
+        if not is_same(trouble, self.trouble):
             self.tell(trouble)
         self.trouble = trouble
         if not is_anew:

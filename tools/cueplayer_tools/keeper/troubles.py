@@ -36,7 +36,7 @@ _OPENS = [
     (RECORD, "lines", rb"record: goes on, and a comment in it says how many lines are missing()$"),
     (OTHER, "replies", rb"(?:replies|messages): device fault()$"),
     (LIGHT, "start", rb"live waits for its network card()|live refused to begin()"),
-    (LIGHT, "start", rb"live does not begin()|another live has this CID()"),
+    (LIGHT, "start", rb"live \(process \d+\) .* before it played()|another live has this CID()"),
     (LIGHT, "start", rb"the record is still written for a live that is gone()"),
     (LIGHT, "start", rb".*: cannot put .* aside: ()"),
     (LIGHT, "still", rb"live \(process \d+\) stands still()"),
