@@ -7,7 +7,7 @@ import time
 import unittest
 
 from folders import resumes
-from machine import in_time, took
+from machine import Late, in_time, took
 from test_night_refused import RefusedTest
 from tooling import stand_still, wait_for
 from wire import SEQUENCE, SLOT_1
@@ -15,6 +15,8 @@ from wire import SEQUENCE, SLOT_1
 NO_RESUME = "the program does not know --resume"
 # For how long receivers hold the light, in milliseconds.
 HELD = 2500
+# By when, in seconds, a `live` that stands still is not ended yet.
+SOON = 0.8
 STANDS = r"live \(process {}\) stands still: it is ended, so that the night goes on$"
 
 
@@ -64,10 +66,16 @@ class Stands(RefusedTest):
         live, _, keeper = self.begin_in_cue_1()
         for number in (live, keeper):
             self.keep_going(number)
-            stand_still(number)
-        self.stay(1.4)
+        began = time.monotonic()
+        stand_still(live)
+        # It has seen by then that the record does not grow.
+        self.stay(0.3)
+        stand_still(keeper)
+        if time.monotonic() > began + SOON:
+            raise Late("the keeper may have ended it before it was stopped itself")
+        self.stay(1)
         os.kill(keeper, signal.SIGCONT)
-        self.stay(0.5)
+        self.stay(0.3)
         os.kill(live, signal.SIGCONT)
         self.stay(1.5)
         self.assertEqual((0, ["ok"]), self.without_moments("sub", "1", "H92"))
