@@ -16,9 +16,10 @@ CID = "c0ffee00-0000-4000-8000-00000000e131"
 # To where nobody listens.
 TO_NOBODY = ("--to", "127.0.0.1:9", "--cid", CID)
 
-# The locks of consoles are in a folder of this run alone.
+# The locks of consoles, and what desks keep, are in a folder of this run alone.
 RUNTIME = tempfile.TemporaryDirectory(prefix="cueplayer-")
 os.environ["XDG_RUNTIME_DIR"] = RUNTIME.name
+os.environ["XDG_STATE_HOME"] = os.path.join(RUNTIME.name, "state")
 
 NO_PATCH = b"no dimmer is patched\n"
 UNFIT = b"words refused\n"

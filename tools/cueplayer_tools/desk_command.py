@@ -295,7 +295,7 @@ def run_desk(words: argparse.Namespace, tell: Teller, tell_address: Teller) -> i
     way = Way([target(word) for word in words.to], words.interface, words.grid, _priority(words))
     if folder is None:
         _refuse_second(words.cid)
-    server = DeskServer(WordDoor(words.port), pin_door(words), tell)
+    server = DeskServer(WordDoor(words.port), pin_door(words, tell), tell)
     receiver = None if words.osc is None else bound_socket(words.osc)
     osc = None if receiver is None else "{}:{}".format(*receiver.getsockname())
     midi = _midi(words, tell)

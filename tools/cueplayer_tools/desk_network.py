@@ -11,6 +11,7 @@ from cueplayer_tools.desk_doors import PinDoor
 from cueplayer_tools.desk_picture import modules_of, text_of
 from cueplayer_tools.desk_pins import Pins, Role
 from cueplayer_tools.own_addresses import foreign, is_public
+from cueplayer_tools.pin_file import PinFile, pin_file
 from cueplayer_tools.teller import Teller
 from cueplayer_tools.words import Refused
 
@@ -47,6 +48,9 @@ def add_network(parser: argparse.ArgumentParser) -> None:
         action="append",
         default=[],
         help="a name that browsers may use for that page, beside the address",
+    )
+    parser.add_argument(
+        "--new-pins", action="store_true", help="make new PINs; by default those of the last time"
     )
     parser.add_argument("--certificate", metavar="FILE", help="TLS for that page, with --key")
     parser.add_argument("--key", metavar="FILE", help="the certificate's private key")
@@ -102,6 +106,8 @@ def check_network(parser: argparse.ArgumentParser, words: argparse.Namespace) ->
         parser.error("--certificate and --key go together")
     if words.listen is None and (words.certificate or words.host):
         parser.error("--certificate and --host need --listen")
+    if words.listen is None and words.new_pins:
+        parser.error("--new-pins needs --listen")
 
 
 def _tls(certificate: str, key: str) -> ssl.SSLContext:
@@ -116,12 +122,13 @@ def _tls(certificate: str, key: str) -> ssl.SSLContext:
     return tls
 
 
-def pin_door(words: argparse.Namespace) -> PinDoor | None:
+def pin_door(words: argparse.Namespace, tell: Callable[[str], None]) -> PinDoor | None:
     """Where others come in; None where nobody does."""
     if words.listen is None:
         return None
     tls = None if words.certificate is None else _tls(words.certificate, words.key)
-    return PinDoor(words.listen, Pins(), words.host, tls)
+    kept = PinFile(pin_file(words.night, words.listen[1]), tell)
+    return PinDoor(words.listen, Pins(kept, words.new_pins), words.host, tls)
 
 
 def warnings(words: argparse.Namespace) -> list[str]:

@@ -14,6 +14,7 @@ from collections.abc import Callable
 from dataclasses import dataclass
 from enum import Enum
 
+from cueplayer_tools.pin_file import PinFile
 from cueplayer_tools.words import Refused
 
 DIGITS = 6
@@ -84,19 +85,33 @@ class Attempts:
 class Pins:
     """The PINs of this desk, and who showed them. One door changes them while another asks."""
 
-    def __init__(self) -> None:
+    def __init__(self, kept: PinFile | None = None, is_new: bool = False) -> None:
+        """Takes those that are kept, where there are any and no new ones are asked for."""
         self.lock = threading.Lock()
+        self.kept, self.keeping = kept, threading.Lock()
         # Gets what the operator has to know.
         self.tell: Callable[[str], None] = lambda text: None
         self.attempts = Attempts()
         self.sessions: dict[bytes, Session] = {}
         self.pins: dict[Role, str] = {}
-        self.change()
+        found = None if kept is None or is_new else kept.read()
+        if found is None:
+            self._change()
+            self._keep()
+        else:
+            self.pins = dict(zip((Role.PLAY, Role.WATCH), found))
 
     def change(self) -> None:
-        """Makes new PINs, and ends all sessions."""
+        """Makes new PINs, and ends all sessions. No disk holds up whoever asks for it."""
         with self.lock:
             self._change()
+        threading.Thread(target=self._keep, daemon=True).start()
+
+    def _keep(self) -> None:
+        """Keeps the PINs that there are now."""
+        with self.keeping:
+            if self.kept is not None:
+                self.kept.write(self.pins[Role.PLAY], self.pins[Role.WATCH])
 
     def _change(self) -> None:
         for session in self.sessions.values():
