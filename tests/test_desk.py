@@ -226,7 +226,8 @@ class Ends(DeskTest):
         self.came()
         self.assertEqual({128}, wait_for(self.shown_levels, "light"))
         again = run_tool("desk", self.show, "--to", self.to, "--cid", self.cid.upper())
-        told = f"desk: process {live} plays live under this CID already: `kill {live}` ends it\n"
+        told = f"desk: process {live} plays live under this CID already: `kill {live}` ends it; "
+        told += "then the same command with --resume goes on where it was\n"
         self.assertEqual((1, told), (again.returncode, again.stderr))
 
     def test_before_the_night(self):

@@ -91,7 +91,7 @@ class BrokenOff(DeskTest):
 
     def test_no_record(self):
         """Without one, and behind an end, there is nothing to take up."""
-        desk, page = self.open_desk()
+        desk, page = self.open_desk("--no-record")
         os.kill(desk.live, signal.SIGKILL)
         page.wait(status=-signal.SIGKILL, resumes=False)
         _, page = self.open_desk("--record", self.folder / "ended.play")

@@ -31,6 +31,7 @@ from cueplayer_tools.desk_network import (
 )
 from cueplayer_tools.desk_night import Night
 from cueplayer_tools.desk_press import USUAL_DOUBLE_GO, MoveGuard
+from cueplayer_tools.desk_record import choose_record, played_record
 from cueplayer_tools.desk_server import DeskServer
 from cueplayer_tools.desk_view import show_view
 from cueplayer_tools.desk_watch import USUAL_PRIORITY
@@ -56,7 +57,7 @@ MOST_DOUBLE_GO = 10_000
 # Words of `live`, which a desk on another's night does not take.
 NIGHT_WORDS = (
     *("show", "to", "interface", "any_route", "ttl", "name", "cid", "priority", "base"),
-    *("record", "replies"),
+    *("record", "no_record", "resume", "replies"),
 )
 
 
@@ -78,7 +79,7 @@ def _parser() -> argparse.ArgumentParser:
     parser.add_argument("--name", metavar="TEXT", help="as for `live`")
     parser.add_argument("--priority", metavar="P", help="as for `live`")
     parser.add_argument("--base", metavar="U", type=int, help="as for `live`")
-    parser.add_argument("--record", metavar="FILE", help="as for `live`")
+    _add_record(parser)
     parser.add_argument(
         "--replies",
         metavar="FILE",
@@ -87,6 +88,24 @@ def _parser() -> argparse.ArgumentParser:
     )
     _add_page(parser)
     return parser
+
+
+def _add_record(parser: argparse.ArgumentParser) -> None:
+    """The options of the night's record."""
+    parser.add_argument(
+        "--record",
+        metavar="FILE",
+        help="a new file; by default one beside the show, with the date and the time in its name",
+    )
+    parser.add_argument(
+        "--no-record", action="store_const", const=True, help="keep none: nothing can go on then"
+    )
+    parser.add_argument(
+        "--resume",
+        action="store_const",
+        const=True,
+        help="go on with the night of --record, or of the show's newest record",
+    )
 
 
 def _add_way(parser: argparse.ArgumentParser) -> None:
@@ -141,6 +160,9 @@ def _read_words(words: list[str]) -> argparse.Namespace:
             parser.error(f"--night has the options of its night: leave out {', '.join(given)}")
     elif chosen.show is None or chosen.to is None:
         parser.error("a new night needs SHOW and --to; --night NIGHT plays one that is kept")
+    elif chosen.no_record and (chosen.record or chosen.resume):
+        parser.error("--no-record goes with neither --record nor --resume")
+    chosen.command = [sys.argv[0], *words]
     return chosen
 
 
@@ -148,8 +170,8 @@ def _live_words(words: argparse.Namespace) -> list[str]:
     live = [words.show, "--cid", str(words.cid), "--base", str(words.base)]
     for word in words.to:
         live += ["--to", word]
-    if words.any_route:
-        live.append("--any-route")
+    live += ["--any-route"] if words.any_route else []
+    live += ["--resume"] if words.resume else []
     for name in ("interface", "ttl", "name", "priority", "record"):
         value = getattr(words, name)
         if value is not None:
@@ -237,20 +259,20 @@ def _watch(night: HeardNight, server: DeskServer, presses: _Presses) -> None:
         time.sleep(WATCH_EVERY)
 
 
-def _refuse_second(cid: uuid.UUID) -> None:
+def _refuse_second(words: argparse.Namespace) -> None:
     """No night of the desk's own begins beside another `live` of its CID."""
-    other = holder(cid)
+    other = holder(words.cid)
     if other is not None:
-        raise Refused(f"process {other} plays live under this CID already: `kill {other}` ends it")
+        told = f"process {other} plays live under this CID already: `kill {other}` ends it"
+        raise Refused(told + played_record(words))
 
 
-def _complete(words: argparse.Namespace, tell: Teller) -> NightFolder | None:
-    """Gives the words what is left out; the folder of a night that others keep."""
+def _complete(words: argparse.Namespace) -> NightFolder | None:
+    """Gives the words those of its night; the folder of a night that others keep."""
     folder = None if words.night is None else NightFolder(words.night)
     if folder is not None:
         vars(words).update(vars(folder.words()))
     words.base = 1 if words.base is None else words.base
-    words.cid = words.cid or console_cid(tell)
     return folder
 
 
@@ -290,11 +312,13 @@ def _tell_start(
 
 def run_desk(words: argparse.Namespace, tell: Teller, tell_address: Teller) -> int:
     """The desk of one night; the status of `live`, or 0 where the night is another's."""
-    folder = _complete(words, tell)
+    folder = _complete(words)
     show = read_show(words.show)
     way = Way([target(word) for word in words.to], words.interface, words.grid, _priority(words))
     if folder is None:
-        _refuse_second(words.cid)
+        choose_record(words, tell)
+        words.cid = words.cid or console_cid(tell)
+        _refuse_second(words)
     server = DeskServer(WordDoor(words.port), pin_door(words, tell), tell)
     receiver = None if words.osc is None else bound_socket(words.osc)
     osc = None if receiver is None else "{}:{}".format(*receiver.getsockname())

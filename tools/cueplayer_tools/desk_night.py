@@ -116,7 +116,7 @@ class Night(HeardNight):
             self.start_lines = list(START_LINES)
             self.is_to_ask, self.is_astray, self.unsure_until = True, False, 0.0
             self.state.status, self.state.is_late = None, False
-            self._begin([*self.words, "--resume"])
+            self._begin([*(word for word in self.words if word != "--resume"), "--resume"])
             self._change()
         self.read()
         self.tell(f"the night is taken up: live is process {self.live()}")

@@ -48,6 +48,15 @@ def user_of(number: int) -> str:
         return f"of the user with the number {number}"
 
 
+def has_end(content: bytes) -> bool:
+    """Whether the last lines of a record are its `end` and the three ticks behind it."""
+    *lines, rest = content.lower().split(b"\n")
+    last = [line.partition(b" ") for line in lines[-4:]]
+    if rest or len(last) < 4 or not all(moment.isdigit() for moment, *_ in last):
+        return False
+    return last[0][2].startswith(b"end") and all(line[2] == b"tick" for line in last[1:])
+
+
 class Folder:
     """A folder in which a night is played, was, or is to be."""
 
@@ -129,11 +138,7 @@ class Folder:
     def has_ended(self) -> bool:
         """Whether the record ends with its `end` and the three ticks behind it."""
         start = max(self.size("record") - _LAST_LINES, 0)
-        *lines, rest = self.read("record", start, _LAST_LINES).lower().split(b"\n")
-        last = [line.partition(b" ") for line in lines[-4:]]
-        if rest or len(last) < 4 or not all(moment.isdigit() for moment, *_ in last):
-            return False
-        return last[0][2].startswith(b"end") and all(line[2] == b"tick" for line in last[1:])
+        return has_end(self.read("record", start, _LAST_LINES))
 
     def is_fifo(self) -> bool:
         try:

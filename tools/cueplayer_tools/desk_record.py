@@ -1,0 +1,155 @@
+"""The record of a desk's night: a new one beside the show, or the one of a night that broke off."""
+
+import argparse
+import os
+import re
+import shlex
+import sys
+import time
+import uuid
+from collections.abc import Callable
+from pathlib import Path
+
+from cueplayer_tools.keeper.folder import Folder, has_end
+from cueplayer_tools.keeper.locks import is_locked
+from cueplayer_tools.words import Refused, printable
+
+_HEAD = re.compile(r"! cueplayer record 1: .*\n! cid ([0-9a-f-]{36}), .*\n")
+_WHEN = r"-\d{4}-\d\d-\d\dT\d{6}(?:-\d+)?\.play"
+_MOST = 4096
+# A night that broke off longer ago is not this evening's.
+SAME_EVENING = 12 * 3600.0
+MOST_NAMES = 100
+
+
+def _named(path: Path) -> str:
+    return printable(str(path), 300)
+
+
+def folder_beside(show: str) -> Path:
+    """Where a night's files go: beside its show, or here where nothing can be written there."""
+    beside = Path(show).absolute().parent
+    for folder in (beside, Path.cwd()):
+        if os.access(folder, os.W_OK | os.X_OK):
+            return folder
+    told = f"no record can be kept in {_named(beside)}, nor here: name one by --record FILE"
+    raise Refused(f"{told}, or leave it out by --no-record")
+
+
+def new_record(show: str) -> Path:
+    """A name that no file has yet, by the date and the time."""
+    folder = folder_beside(show)
+    name = f"{Path(show).stem}-{time.strftime('%Y-%m-%dT%H%M%S', time.localtime())}"
+    for number in range(1, MOST_NAMES):
+        file = folder / (f"{name}.play" if number == 1 else f"{name}-{number}.play")
+        if not os.path.lexists(file):
+            return file
+    raise Refused(f"{MOST_NAMES} records began in this second: name one by --record FILE")
+
+
+def newest_record(show: str) -> Path | None:
+    """The one of this show that was written last, if there is any."""
+    folder, name = folder_beside(show), re.compile(re.escape(Path(show).stem) + _WHEN)
+    found = [each for each in folder.iterdir() if name.fullmatch(each.name) and each.is_file()]
+    return max(found, key=_age_and_name) if found else None
+
+
+def _age_and_name(file: Path) -> tuple[float, str]:
+    return file.stat().st_mtime, file.name
+
+
+def _is_played(file: Path) -> bool:
+    return is_locked(Folder(str(file.parent)), file.name)
+
+
+def broke_off(file: Path) -> bool:
+    """Whether the night of a record has begun, has not ended, and nobody plays it."""
+    folder = Folder(str(file.parent))
+    start = max(folder.size(file.name) - _MOST, 0)
+    tail = folder.read(file.name, start, _MOST)
+    return bool(tail) and not has_end(tail) and not _is_played(file)
+
+
+def _cid_in(file: Path) -> uuid.UUID | None:
+    """The CID of a record's night."""
+    head = Folder(str(file.parent)).read(file.name, 0, _MOST).decode("latin-1")
+    found = _HEAD.match(head)
+    return None if found is None else uuid.UUID(found[1])
+
+
+def _is_of_this_evening(file: Path) -> bool:
+    return abs(time.time() - file.stat().st_mtime) < SAME_EVENING
+
+
+def says_yes(question: str) -> bool:
+    """Asks at the terminal until the answer is yes or no; Refused where none comes."""
+    while True:
+        try:
+            print(question, end="", file=sys.stderr, flush=True)
+            word = sys.stdin.readline()
+        except KeyboardInterrupt:
+            word = ""
+        if not word:
+            print(file=sys.stderr)
+            raise Refused("nothing was begun")
+        if word.strip().lower() in ("y", "yes", "n", "no"):
+            return word.strip().lower() in ("y", "yes")
+
+
+def is_at_terminal() -> bool:
+    """Whether somebody can be asked."""
+    return sys.stdin.isatty() and sys.stderr.isatty()
+
+
+def _offer(file: Path, tell: Callable[[str], None], command: list[str]) -> bool:
+    """Whether the night that broke off is to go on, instead of a new one: asked at a terminal, and
+    else told how."""
+    when = time.strftime("%H:%M", time.localtime(file.stat().st_mtime))
+    told = f"a night of this show broke off at {when}: {_named(file)}"
+    if is_at_terminal():
+        return says_yes(f"desk: {told}\ndesk: y goes on where it was, n begins a new night: ")
+    words = printable(shlex.join([*command, "--record", str(file), "--resume"]), 2000)
+    tell(f"{told}; this is a new night, and this goes on with the other: {words}")
+    return False
+
+
+def _record_to_resume(show: str) -> Path:
+    """The newest record of a show, whose night has not ended."""
+    newest = newest_record(show)
+    if newest is None:
+        raise Refused("nothing to go on with: no record of this show is here; name it by --record")
+    if not (broke_off(newest) or _is_played(newest)):
+        raise Refused(f"the night of {_named(newest)} has ended: leave out --resume")
+    return newest
+
+
+def _offered(words: argparse.Namespace, tell: Callable[[str], None]) -> Path | None:
+    """The record of a night that broke off this evening and is to go on, if there is one."""
+    newest = newest_record(words.show)
+    if newest is None or not _is_of_this_evening(newest) or not broke_off(newest):
+        return None
+    return newest if _offer(newest, tell, words.command) else None
+
+
+def choose_record(words: argparse.Namespace, tell: Callable[[str], None]) -> None:
+    """Gives the words of a new night its record, and its CID where it goes on."""
+    if words.no_record:
+        return
+    file = None if words.record is None else Path(words.record)
+    if words.resume:
+        file = file or _record_to_resume(words.show)
+    elif file is None:
+        file = _offered(words, tell)
+        words.resume = file is not None or None
+    if words.resume and file is not None:
+        words.cid = words.cid or _cid_in(file)
+    words.record = str(file or new_record(words.show))
+
+
+def played_record(words: argparse.Namespace) -> str:
+    """What to do once a `live` has ended that no desk has any more, and that has such a record."""
+    given = None if words.record is None else Path(words.record)
+    files = [each for each in (given, newest_record(words.show)) if each and each.is_file()]
+    if words.no_record or not any(map(_is_played, files)):
+        return ""
+    return "; then the same command with --resume goes on where it was"
