@@ -45,6 +45,20 @@ _cueplayer_value() {
 }
 # end of the jobs and options
 
+# `premiere` is a tool beside the program.
+_cueplayer_premiere="--to --cid --priority --base --interface --any-route --name --ttl --night"
+_cueplayer_premiere+=" --anyway --listen --port --host --new-pins --certificate --key --osc"
+
+# The word behind an option, also of `premiere`; none behind a flag.
+_cueplayer_any_value() {
+    case $1 in
+        --night) echo FOLDER ;;
+        --certificate | --key) echo FILE ;;
+        --listen | --osc | --port | --host) echo ADDR ;;
+        *) _cueplayer_value "$1" ;;
+    esac
+}
+
 # The names of this machine's network cards.
 _cueplayer_cards() {
     local card
@@ -54,6 +68,7 @@ _cueplayer_cards() {
 # Whether a word of the job `$1` names a file: the one behind `$2` others.
 _cueplayer_is_file() {
     local -a named
+    [[ $1/$2 != premiere/0 ]] || return 0
     read -ra named < <(_cueplayer_words "$1")
     [[ ${named[$2]-} == SHOW || ${named[$2]-} == SCRIPT ]]
 }
@@ -89,7 +104,7 @@ _cueplayer_parse() {
         elif [[ $word == -- ]]; then
             words_only=1
         elif [[ $word == -?* && -z $words_only ]]; then
-            [[ -z $(_cueplayer_value "$word") ]] || option=$word
+            [[ -z $(_cueplayer_any_value "$word") ]] || option=$word
             used+="$word "
         elif [[ -z $job ]]; then
             job=$word
@@ -101,32 +116,35 @@ _cueplayer_parse() {
 
 # Fills COMPREPLY with what may stand where the cursor is.
 _cueplayer() {
-    local job='' option='' used=' ' place=0 words_only='' choices='' is_file='' name
+    local job='' option='' used=' ' place=0 words_only='' choices='' kind='' options name
     local -a words=()
     _cueplayer_join
     local current=${words[-1]}
     _cueplayer_parse "${words[@]:0:${#words[@]}-1}"
     if [[ -n $option ]]; then
-        case $(_cueplayer_value "$option") in
-            FILE) is_file=1 ;;
+        case $(_cueplayer_any_value "$option") in
+            FILE) kind=-f ;;
+            FOLDER) kind=-d ;;
             TARGET) choices=${current%"${current##*=}"}239.255.0.0 ;;
             CARD) choices=$(_cueplayer_cards) ;;
         esac
     elif [[ -z $job ]]; then
-        choices="$_cueplayer_jobs help"
+        choices="$_cueplayer_jobs premiere help"
         [[ $current != -* ]] || choices="--help --version"
     elif [[ $job == help ]]; then
         ((place)) || choices=$_cueplayer_jobs
     elif [[ $current == -* && -z $words_only ]]; then
-        for name in $(_cueplayer_options "$job") --help; do
+        options=$(_cueplayer_options "$job")
+        [[ $job != premiere ]] || options=$_cueplayer_premiere
+        for name in $options --help; do
             [[ $used == *" $name "* && $name != --to ]] || choices+=" $name"
         done
     elif _cueplayer_is_file "$job" "$place"; then
-        is_file=1
+        kind=-f
     fi
-    if [[ -n $is_file ]]; then
+    if [[ -n $kind ]]; then
         compopt -o filenames 2>/dev/null
-        mapfile -t COMPREPLY < <(compgen -f -- "$current")
+        mapfile -t COMPREPLY < <(compgen "$kind" -- "$current")
     else
         mapfile -t COMPREPLY < <(compgen -W "$choices" -- "$current")
     fi

@@ -1,5 +1,6 @@
 """The completion for bash, called as Readline calls it, against what the program's help names."""
 
+import functools
 import os
 import re
 import subprocess
@@ -25,6 +26,14 @@ function=${function#*-F }
 "${function%% *}"
 ((${#COMPREPLY[@]} == 0)) || printf '%s\\n' "${COMPREPLY[@]}"
 """
+
+
+@functools.cache
+def premiere():
+    """The options of `premiere`, by its help."""
+    words = [TOP / "cueplayer", "premiere", "--help"]
+    told = subprocess.run(words, capture_output=True, text=True).stdout.partition("\nusage:")[2]
+    return set(re.findall(r"(?<![\w-])--[a-z-]+", told))
 
 
 class CompletionTest(unittest.TestCase):
@@ -56,7 +65,7 @@ class CompletionTest(unittest.TestCase):
 class Completion(CompletionTest):
     def test_jobs(self):
         """Those of the program's help, and the word help."""
-        self.assertCompletes([""], *jobs(), "help")
+        self.assertCompletes([""], *jobs(), "premiere", "help")
         self.assertCompletes(["help", ""], *jobs())
         self.assertCompletes(["li"], "listen", "live")
         self.assertCompletes(["help", "look", ""])
@@ -113,6 +122,20 @@ class Completion(CompletionTest):
         self.assertCompletes(["live", "--record", "=", ""], "night.asc", "nine shows.asc")
         self.assertCompletes(["live", "--record", "="], "night.asc", "nine shows.asc")
 
+    def test_premiere(self):
+        """The options of its help; a file first, and behind an option what that takes."""
+        self.assertCompletes(["pr"], "premiere")
+        self.assertCompletes(["premiere", "ni"], "night.asc", "nine shows.asc")
+        self.assertCompletes(["premiere", "night.asc", "ni"])
+        self.assertCompletes(["premiere", "night.asc", "--"], *premiere())
+        self.assertCompletes(["premiere", "night.asc", "--to", "2"], "239.255.0.0")
+        self.assertCompletes(["premiere", "night.asc", "--listen", "n"])
+        self.assertCompletes(["premiere", "--key", "nig"], "night.asc")
+        (self.folder / "nights").mkdir()
+        self.assertCompletes(["premiere", "--night", "ni"], "nights")
+        left = premiere() - {"--anyway"}
+        self.assertCompletes(["premiere", "--anyway", "night.asc", "--"], *left)
+
     def test_no_options_behind_two_dashes(self):
         (self.folder / "--cid").write_text("")
         self.assertCompletes(["look", "--", "--"], "--cid")
@@ -120,7 +143,7 @@ class Completion(CompletionTest):
     def test_names_only_what_the_program_has(self):
         """No job and no option stands in the completion that no help names."""
         text = re.sub(r"(?m)^\s*#.*$", "", COMPLETION.read_text())
-        options = {option for job in jobs().values() for option in job.options}
+        options = {option for job in jobs().values() for option in job.options} | premiere()
         self.assertEqual(
             options | {"--help", "--version"}, set(re.findall(r"(?<![\w-])--[a-z][a-z-]*", text))
         )

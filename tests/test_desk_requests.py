@@ -362,9 +362,9 @@ class Whose(DeskTest):
             ("back", "0a1b2c3d", "0a1b2c3d"), ("goto 99", "f", "f"), ("nonsense", "00ff", "00ff"),
             ("back", None, ""), ("back", "", ""), ("back", "xyz", ""), ("back", "a" * 17, ""),
         )  # fmt: skip
-        for line, word, _ in asked:
+        for count, (line, word, _) in enumerate(asked, 1):
             page.command(line, Desk_Page=word)
-            page.wait(waiting=0)
+            wait_for(lambda: len(page.notices()) == count, f"notice {count}")
         for each in (page, other):
             wait_for(lambda: len(each.notices()) == len(asked), "a notice for each")
             told = [notice["page"] for notice in each.state["notices"]]

@@ -14,7 +14,7 @@ from program import PROGRAM, TOP
 from tooling import run_tool
 
 OTHER = MADE + "# a later one\n"
-TOOLS = ("conform", "convert", "desk", "osc", "picture", "sheet", "storm", "watch")
+TOOLS = ("conform", "convert", "desk", "osc", "picture", "premiere", "sheet", "storm", "watch")
 SCRIPTS = ("cueplayer", "cueplayer-night")
 # What of the tree is copied beside the program.
 NAMES = ("cueplayer-night", "install", "manifest", "README.md", "CHANGELOG.md", "LICENSE")

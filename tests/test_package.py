@@ -13,7 +13,7 @@ from pathlib import Path
 
 from program import CID, SHIPPED, TOP
 
-TOOLS = ("conform", "convert", "desk", "osc", "picture", "sheet", "storm", "watch")
+TOOLS = ("conform", "convert", "desk", "osc", "picture", "premiere", "sheet", "storm", "watch")
 # What the package is made of besides dist/.
 PARTS = (
     *("cueplayer", "cueplayer-night", "install", "manifest", "VERSION", "HANDLES", "crates.txt"),

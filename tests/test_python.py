@@ -9,7 +9,7 @@ import unittest
 
 from program import TOP
 
-NAMES = ("conform", "convert", "desk", "osc", "picture", "sheet", "storm", "watch")
+NAMES = ("conform", "convert", "desk", "osc", "picture", "premiere", "sheet", "storm", "watch")
 TOOLS = [
     *(TOP / "tools/cueplayer_tools", TOP / "cueplayer-night"),
     *(TOP / "tools" / name for name in NAMES),

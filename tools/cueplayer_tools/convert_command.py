@@ -43,7 +43,7 @@ def makers_word(word: str) -> str:
     return word.removeprefix("$").upper()
 
 
-def _content(file: str) -> bytes:
+def content_of(file: str) -> bytes:
     content = read_whole(file, LONGEST_EXPORT + 1)
     if len(content) > LONGEST_EXPORT:
         raise Refused(f"{file}: more than {LONGEST_EXPORT:,} bytes")
@@ -80,7 +80,7 @@ def _doubts(conversion: Conversion) -> list[str]:
     return [f"{DOUBT}: {doubt}" for doubt in doubts if doubt]
 
 
-def _report(name: str, content: bytes, conversion: Conversion) -> list[str]:
+def report_of(name: str, content: bytes, conversion: Conversion) -> list[str]:
     """All that is told of a conversion; Refused where the program does not take its show."""
     with tempfile.TemporaryDirectory() as folder:
         before, after = Path(folder) / "before.asc", Path(folder) / "after.asc"
@@ -119,10 +119,10 @@ def main(words: list[str]) -> int:
     chosen = _parser().parse_args(words)
     inside, outside = frozenset(chosen.inside), frozenset(chosen.outside)
     try:
-        content = _content(chosen.file)
+        content = content_of(chosen.file)
         conversion = convert(content, Choices(chosen.list, chosen.tracking, inside, outside))
         name = "standard input" if chosen.file == "-" else chosen.file
-        print("\n".join(_report(name, content, conversion)), file=sys.stderr)
+        print("\n".join(report_of(name, content, conversion)), file=sys.stderr)
         for file in chosen.table:
             write_table(file, conversion, Path(name).name)
         write_out(conversion.show)

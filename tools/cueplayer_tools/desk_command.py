@@ -10,6 +10,7 @@ import sys
 import threading
 import time
 import uuid
+from collections.abc import Callable
 from pathlib import Path
 
 from cueplayer_tools.addresses import bound_socket
@@ -20,10 +21,11 @@ from cueplayer_tools.desk_folder import FolderNight
 from cueplayer_tools.desk_heard import HeardNight
 from cueplayer_tools.desk_levels import LevelReader, Way
 from cueplayer_tools.desk_looks import BlindLooks
-from cueplayer_tools.desk_doors import WordDoor
+from cueplayer_tools.desk_doors import PinDoor, WordDoor
 from cueplayer_tools.desk_network import (
     add_midi,
     add_network,
+    check_needs,
     check_network,
     pin_door,
     tell_door,
@@ -148,11 +150,12 @@ def _milliseconds(word: str) -> int:
     raise argparse.ArgumentTypeError(f"not a time from 0 to {MOST_DOUBLE_GO} ms: {word!r}")
 
 
-def _read_words(words: list[str]) -> argparse.Namespace:
+def read_words(words: list[str]) -> argparse.Namespace:
     """The words of a desk that runs `live`, or of one that takes hold of a night."""
     parser = _parser()
     chosen = parser.parse_args(words)
     check_network(parser, chosen)
+    check_needs(parser, chosen)
     if chosen.night is not None:
         named = [name for name in NIGHT_WORDS if getattr(chosen, name) is not None]
         given = [name.replace("_", "-") for name in named]
@@ -310,8 +313,14 @@ def _tell_start(
         tell(line)
 
 
-def run_desk(words: argparse.Namespace, tell: Teller, tell_address: Teller) -> int:
-    """The desk of one night; the status of `live`, or 0 where the night is another's."""
+def run_desk(
+    words: argparse.Namespace,
+    tell: Teller,
+    tell_address: Teller,
+    tell_more: Callable[[PinDoor | None], None] = lambda door: None,
+) -> int:
+    """The desk of one night; the status of `live`, or 0 where the night is another's. Once it has
+    told where its page is, `tell_more` may go on with what belongs to it."""
     folder = _complete(words)
     show = read_show(words.show)
     way = Way([target(word) for word in words.to], words.interface, words.grid, _priority(words))
@@ -331,6 +340,7 @@ def run_desk(words: argparse.Namespace, tell: Teller, tell_address: Teller) -> i
     night = _night(words, folder, show, (tell, replies))
     try:
         _tell_start(words, server, night.live(), (tell, tell_address))
+        tell_more(server.elsewhere)
         night.read()
         levels.read(night.wake)
         looks = BlindLooks(words.show, show, words.base)
@@ -349,7 +359,7 @@ def run_desk(words: argparse.Namespace, tell: Teller, tell_address: Teller) -> i
 
 def main(words: list[str]) -> int:
     """Runs the tool with these words, and answers its exit status."""
-    chosen = _read_words(words)
+    chosen = read_words(words)
     # A thread that reads what attackers send hands the interpreter on this soon, not after 5 ms.
     sys.setswitchinterval(SWITCH_EVERY)
     tell, tell_address = Teller(sys.stderr, "desk: "), Teller(sys.stdout)

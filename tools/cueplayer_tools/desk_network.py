@@ -16,6 +16,7 @@ from cueplayer_tools.teller import Teller
 from cueplayer_tools.words import Refused
 
 USUAL_PORT = 8090
+NETWORK_NAMES = ("port", "listen", "host", "new_pins", "certificate", "key", "osc")
 TRUSTED = (
     "no TLS: the network is trusted, since whoever reads it reads the PIN; "
     "--certificate and --key encrypt"
@@ -100,10 +101,14 @@ def check_network(parser: argparse.ArgumentParser, words: argparse.Namespace) ->
         address = getattr(words, name)
         if address is not None and (fault := foreign(address)):
             parser.error(f"--{name}: {fault}")
-    if words.midi is None and (words.midi_go, words.midi_back) != (None, None):
-        parser.error("--midi-go and --midi-back need --midi")
     if (words.certificate is None) != (words.key is None):
         parser.error("--certificate and --key go together")
+
+
+def check_needs(parser: argparse.ArgumentParser, words: argparse.Namespace) -> None:
+    """Refuses options that do nothing without another."""
+    if words.midi is None and (words.midi_go, words.midi_back) != (None, None):
+        parser.error("--midi-go and --midi-back need --midi")
     if words.listen is None and (words.certificate or words.host):
         parser.error("--certificate and --host need --listen")
     if words.listen is None and words.new_pins:

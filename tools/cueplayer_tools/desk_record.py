@@ -4,12 +4,12 @@ import argparse
 import os
 import re
 import shlex
-import sys
 import time
 import uuid
 from collections.abc import Callable
 from pathlib import Path
 
+from cueplayer_tools.asking import is_at_terminal, says_yes
 from cueplayer_tools.keeper.folder import Folder, has_end
 from cueplayer_tools.keeper.locks import is_locked
 from cueplayer_tools.words import Refused, printable
@@ -79,26 +79,6 @@ def _cid_in(file: Path) -> uuid.UUID | None:
 
 def _is_of_this_evening(file: Path) -> bool:
     return abs(time.time() - file.stat().st_mtime) < SAME_EVENING
-
-
-def says_yes(question: str) -> bool:
-    """Asks at the terminal until the answer is yes or no; Refused where none comes."""
-    while True:
-        try:
-            print(question, end="", file=sys.stderr, flush=True)
-            word = sys.stdin.readline()
-        except KeyboardInterrupt:
-            word = ""
-        if not word:
-            print(file=sys.stderr)
-            raise Refused("nothing was begun")
-        if word.strip().lower() in ("y", "yes", "n", "no"):
-            return word.strip().lower() in ("y", "yes")
-
-
-def is_at_terminal() -> bool:
-    """Whether somebody can be asked."""
-    return sys.stdin.isatty() and sys.stderr.isatty()
 
 
 def _offer(file: Path, tell: Callable[[str], None], command: list[str]) -> bool:

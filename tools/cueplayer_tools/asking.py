@@ -1,0 +1,30 @@
+"""Questions at a terminal."""
+
+import sys
+
+from cueplayer_tools.words import Refused
+
+
+def is_at_terminal() -> bool:
+    """Whether somebody can be asked."""
+    return sys.stdin.isatty() and sys.stderr.isatty()
+
+
+def answer_to(question: str, answers: tuple[str, ...]) -> str:
+    """Asks until the answer is one of these; Refused where none comes."""
+    while True:
+        try:
+            print(question, end="", file=sys.stderr, flush=True)
+            word = sys.stdin.readline()
+        except KeyboardInterrupt:
+            word = ""
+        if not word:
+            print(file=sys.stderr)
+            raise Refused("nothing was begun")
+        if word.strip().lower() in answers:
+            return word.strip().lower()
+
+
+def says_yes(question: str) -> bool:
+    """Asks until the answer is yes or no."""
+    return answer_to(question, ("y", "yes", "n", "no")).startswith("y")

@@ -1,0 +1,86 @@
+"""The night of a premiere: its folder, the show in it, and who keeps it going."""
+
+import os
+import shlex
+import shutil
+import subprocess
+import time
+from dataclasses import dataclass
+from pathlib import Path
+
+from cueplayer_tools.desk_record import folder_beside
+from cueplayer_tools.night_folder import NightFolder
+from cueplayer_tools.premiere_show import Made
+from cueplayer_tools.program import keeper
+from cueplayer_tools.words import Refused, printable
+
+
+def usual_folder(show: str) -> Path:
+    """Where the nights of a show are, if no other folder is named."""
+    return folder_beside(show) / f"{Path(show).stem}-night"
+
+
+def named(path: Path) -> str:
+    return printable(str(path), 300)
+
+
+@dataclass(frozen=True)
+class Premiere:
+    """The folder of a night, and what was named for it."""
+
+    path: Path
+
+    @property
+    def folder(self) -> NightFolder:
+        return NightFolder(str(self.path))
+
+    def is_played(self) -> bool:
+        """Whether a `live` plays in it, or somebody is about to start one."""
+        return self.folder.is_played() or self.folder.is_kept()
+
+    def broke_off(self) -> bool:
+        """Whether a night has begun in it and not ended."""
+        return self.folder.folder.has_record() and not self.folder.has_ended()
+
+    def when(self) -> str:
+        """When its record was written last."""
+        written = (self.path / "record").stat().st_mtime
+        return time.strftime("%Y-%m-%d %H:%M", time.localtime(written))
+
+    def command(self, word: str) -> str:
+        """What a shell takes for a command of this night."""
+        script = "cueplayer-night" if shutil.which("cueplayer-night") else keeper()
+        return shlex.join([script, str(self.path), word])
+
+    def keep_show(self, name: str, made: Made) -> Path:
+        """Puts the show into the folder, and the report of its conversion: what is played does not
+        change if the file it comes from does. One that somebody has changed here is put aside."""
+        try:
+            self.path.mkdir(exist_ok=True)
+            show = self.path / f"{Path(name).stem}.asc"
+            if show.is_file() and show.read_bytes() != made.content:
+                written = time.localtime(show.stat().st_mtime)
+                when = time.strftime("%Y-%m-%dT%H%M%S", written)
+                os.rename(show, show.with_name(f"{show.stem}-{when}.asc"))
+            show.write_bytes(made.content)
+            if made.report:
+                show.with_suffix(".report").write_text("\n".join(made.report) + "\n", "utf-8")
+        except OSError as fault:
+            raise Refused(f"{named(self.path)}: {fault.strerror}") from fault
+        return show
+
+    def start(self, *words: str) -> list[str]:
+        """Begins a night with these words of `live`, or goes on with the one in the folder; what is
+        said of it. Refused with what went wrong."""
+        done = subprocess.run(
+            [keeper(), str(self.path), "start", *words, "--background"],
+            stdin=subprocess.DEVNULL,
+            stdout=subprocess.PIPE,
+            stderr=subprocess.STDOUT,
+            start_new_session=True,
+            check=False,
+        )
+        lines = [printable(line, 300) for line in done.stdout.splitlines()]
+        if done.returncode:
+            raise Refused(lines[-1] if lines else f"cueplayer-night: status {done.returncode}")
+        return lines
