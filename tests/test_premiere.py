@@ -223,6 +223,26 @@ class Shows(PremiereTest):
         self.assertEqual(2, done.returncode)
         self.assertIn("the following arguments are required: --to", done.stderr)
 
+    def test_live_refuses(self):
+        """What `live` refuses is told with its reason, and nothing is left behind that waits."""
+        there = r"no card eth77: there are .*"
+        for words, told in (
+            (("--priority", "201"), "--priority `201`: a priority is a number from 0 to 200"),
+            (("--interface", "eth77"), there),
+        ):
+            done = subprocess.run(
+                self.typed(*words), stdin=subprocess.DEVNULL, capture_output=True, text=True,
+                env=self.environment, timeout=2 * PATIENCE,
+            )  # fmt: skip
+            self.assertEqual((1, ""), (done.returncode, done.stdout))
+            last = done.stderr.splitlines()[-1]
+            self.assertRegex(last, f"^premiere: {told}; nothing was begun$")
+            self.assertFalse(Premiere(self.night).is_played())
+        self.assertEqual([], self.came(0.05))
+        process, _, page, _ = self.opened()
+        page.wait(current=None, next="1")
+        self.leave(process)
+
     def test_help(self):
         """It begins with what the command does, and how it is typed."""
         done = subprocess.run([PREMIERE, "premiere", "--help"], capture_output=True, text=True)

@@ -14,6 +14,11 @@ from cueplayer_tools.premiere_show import Made
 from cueplayer_tools.program import keeper
 from cueplayer_tools.words import Refused, printable
 
+# A keeper waits for the card of a night; words that are just typed may name a wrong one.
+_WAITS = " live waits for its network card: "
+# What is said of any night, or of words in general.
+_NO_REASONS = ("night: ", "words refused", "show: ", "sends: ", "record: ")
+
 
 def usual_folder(show: str) -> Path:
     """Where the nights of a show are, if no other folder is named."""
@@ -69,18 +74,29 @@ class Premiere:
             raise Refused(f"{named(self.path)}: {fault.strerror}") from fault
         return show
 
-    def start(self, *words: str) -> list[str]:
-        """Begins a night with these words of `live`, or goes on with the one in the folder; what is
-        said of it. Refused with what went wrong."""
+    def _run(self, *words: str) -> tuple[int, list[str]]:
+        """The status of a command of the night, and what it says."""
         done = subprocess.run(
-            [keeper(), str(self.path), "start", *words, "--background"],
+            [keeper(), str(self.path), *words],
             stdin=subprocess.DEVNULL,
             stdout=subprocess.PIPE,
             stderr=subprocess.STDOUT,
             start_new_session=True,
             check=False,
         )
-        lines = [printable(line, 300) for line in done.stdout.splitlines()]
-        if done.returncode:
-            raise Refused(lines[-1] if lines else f"cueplayer-night: status {done.returncode}")
-        return lines
+        return done.returncode, [printable(line, 300) for line in done.stdout.splitlines()]
+
+    def start(self, *words: str) -> list[str]:
+        """Begins a night with these words of `live`, or goes on with the one in the folder; what is
+        said of it. Refused with the reason where nothing plays then; a night that was to go on
+        begins by itself once its network card is there."""
+        status, lines = self._run("start", *words, "--background")
+        is_waiting = any(_WAITS in line for line in lines)
+        if not status and not is_waiting:
+            return lines
+        if is_waiting and words:
+            self._run("halt")
+        reasons = [line for line in lines if not line.startswith(_NO_REASONS)]
+        then = "the night goes on as soon as the card is there" if is_waiting else ""
+        told = "; ".join([*reasons, "nothing was begun" if words else then]).rstrip("; ")
+        raise Refused(told or f"cueplayer-night: status {status}")
