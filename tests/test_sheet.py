@@ -14,7 +14,7 @@ from expected import show as shows
 from program import TOP, FolderTest, text
 from tooling import run_tool
 
-from cueplayer_tools import cue_list, looks, sheet_changes
+from cueplayer_tools import channel_levels, cue_list, looks, sheet_changes
 from cueplayer_tools.sheet_changes import Change
 
 # The width and height of paper, in inches.
@@ -81,21 +81,47 @@ class Sheets(SheetTest):
     def test_a_show(self):
         """Rows by hand: labels, times with delays, what follows by itself, and what changes."""
         content = text(
-            "PATCH 1 1<1@FL 2<2@FL 3<3@50 3<600@FL 4<4@FL",
+            "PATCH 1 1<1@FL 2<2@80 3<3@50 3<600@FL 4<4@FL",
             "CUE 1 ! house to half", "UP 3", "DOWN 1:30 0.5", "CHAN 1@50 2@50 3@FL",
-            "CUE 2", "TEXT blackout", "FOLLOWON 10",
-            "CUE 2.5", "CHAN 1@50 4@FL 9@FL", "UP 0", "FOLLOWON 5", "SUB 3 ! haze", "CHAN 1@5",
-            "GROUP 7", "CHAN 1@5",
+            "CUE 2 ! p. 12, the door", "TEXT blackout", "FOLLOWON 10",
+            "CUE 2.5", "TEXT", "CHAN 1@50 4@FL 9@FL", "UP 0", "FOLLOWON 5", "SUB 3 ! haze",
+            "CHAN 1@5", "GROUP 7", "CHAN 1@5",
         )  # fmt: skip
         expected = [
-            ["Cue", "Label", "Up", "Down", "What changes", "Called at"],
-            ["1", "house to half", "3 s", "1:30 | after 0.5 s", "up 1-2 to 50; 3 to full", ""],
-            ["2", "blackout", "0 s", "0 s", "out 1-3", ""],
-            ["2.5 | by itself, 10 s after cue 2", "", "0 s", "0 s", "up 1 to 50; 4 to full", ""],
+            ["Cue", "Page", "Label", "Up", "Down", "What changes", "Called at"],
+            ["1", "", "house to half", "3 s", "1:30 | after 0.5 s",
+             "up 1-2 to 50; 3 to full | patched 2 at 40", ""],
+            ["2", "12", "blackout | p. 12, the door", "0 s", "0 s", "out 1-3", ""],
+            ["2.5 | by itself, 10 s after cue 2", "", "", "0 s", "0 s",
+             "up 1 to 50; 4, 9 to full | no dimmer 9", ""],
             ["3", "haze"],
             ["7", ""],
-        ]
+        ]  # fmt: skip
         self.assertEqual(expected, self.rows(content))
+
+    def test_patch(self):
+        """Below stands which slots a channel runs, in few words."""
+        patch = "PATCH 1 1<1@FL 2<2@FL 3<3@50 5<4@FL 5<600@FL 7<8192@H80 8<512@FL 9<513@FL"
+        page = self.sheet(text(patch, "CUE 1"))
+        told = "1-2: 1/1-2; 3: 1/3 at 50; 5: 1/4, 2/88; 7: 16/512 at 50; 8: 1/512; 9: 2/1"
+        self.assertIn(told, [part.replace("\xa0", " ") for part in page.texts])
+        self.assertNotIn("Patch", self.sheet(text("CUE 1")).texts)
+
+    def test_notes(self):
+        """All that the show says of a cue stands there, whole and once; a page is named by one."""
+        content = text(
+            "CUE 1 ! act one", "TEXT STOP! wait", "TEXT \"Marie enters\"", "CHAN 1@FL ! no note",
+            "TEXT \"Marie enters\"", "SUB 1", "TEXT of no cue", "CUE 1 ! again, S. 7a",
+            "CUE 2 2", "TEXT of another page", "CUE 3 ! page 9", "$MAKER", "TEXT of the maker",
+            "CUE 4", "CLEAR x", "TEXT of no record", "CUE 5 ! UP 5, steps 3", "ENDDATA",
+            "CUE 1 ! behind the end",
+        )  # fmt: skip
+        rows = self.rows(content)[1:5]
+        notes = "Marie enters | act one | STOP! wait | again, S. 7a"
+        expected = [["7a", notes], ["9", "page 9"], ["", ""], ["", "UP 5, steps 3"]]
+        self.assertEqual(expected, [row[1:3] for row in rows])
+        cleared = text("CUE 1 ! old", "CLEAR CUES", "CUE 1 ! new")
+        self.assertEqual(["", "new"], self.rows(cleared)[1][1:3])
 
     def test_heads(self):
         content = text("PATCH 1 1<1@FL", "CUE 1", "CHAN 1@FL")
@@ -111,7 +137,7 @@ class Sheets(SheetTest):
         title = f"</title></h1>{evil}"
         content = text(f"CUE 1\nTEXT -{evil}-", f"SUB 1 ! -{evil}</h1>-", f"GROUP 2 ! <!--{evil}")
         rows = self.rows(content, "--title", title)
-        self.assertEqual(f"-{evil}-", rows[1][1])
+        self.assertEqual(f"-{evil}-", rows[1][2])
         self.assertEqual([["1", f"-{evil}</h1>-"], ["2", f"!--{evil}"]], rows[2:])
         self.assertEqual(2, self.sheet(content, "--title", title).texts.count(title))
 
@@ -120,11 +146,11 @@ class Sheets(SheetTest):
         rows = self.rows(
             b"CUE 1\nTEXT " + label + b"\nCUE 2\nTEXT Caf\xc3\xa9\nCUE 3\nTEXT Caf\xe9\n"
         )
-        self.assertEqual(["Café", "Café"], [row[1] for row in rows[2:]])
+        self.assertEqual(["Café", "Café"], [row[2] for row in rows[2:]])
 
     def test_nothing_patched(self):
         page = self.sheet(text("CUE 1", "CHAN 1@FL"))
-        self.assertIn("nothing", page.rows[1][4])
+        self.assertEqual("up 1 to full", page.rows[1][5].replace("\xa0", " ").strip())
         self.assertTrue(
             any("No dimmer is patched: no cue lights anything." in part for part in page.texts)
         )
@@ -138,7 +164,7 @@ class Sheets(SheetTest):
                 rows = self.rows(file.read_bytes())[1:]
                 self.assertEqual(len(show.cues) + len(show.subs) + len(show.groups), len(rows))
                 labels = [show.label("cues", n).decode() for n in sorted(show.cues)]
-                self.assertEqual(labels, [row[1] for row in rows[: len(labels)]])
+                self.assertEqual(labels, [row[2] for row in rows[: len(labels)]])
 
     def test_refused(self):
         for content, told in (
@@ -220,6 +246,45 @@ class Looks(FolderTest):
                 tried += 1
                 with self.subTest(content):
                     self.assertLooks(content)
+
+
+class ChannelLevels(FolderTest):
+    """The levels of channels, against a second reader."""
+
+    def assertLevels(self, content):
+        show = cue_list.read_show(str(self.file("night.asc", content)))
+        read = shows.read(content)
+        expected = {
+            cue: {channel: level for channel, level in read.cues[cue].levels.items() if level}
+            for cue in show.order
+        }
+        self.assertEqual(expected, channel_levels.levels_of(content, show, self.folder))
+
+    def test_however_patched(self):
+        """A channel's own level counts, whatever its patch says, and behind whatever comes."""
+        for lines in (
+            ("PATCH 1 1<1@0 2<8192@1", "CUE 1", "CHAN 1@50 2@H01 4096@FL 0003/10"),
+            ("CUE 1", "CHAN 1@FL", "$MAKER", "PATCH 1 0<1@FL", "$MAKER", "CHAN 2@FL"),
+            ("CUE 1", "CHAN 1@FL ! ENDDATA", " ,endData@x", "CUE 2", "CHAN 2@FL"),
+            ("CUE 1", "CHAN 1@FL", "CLEAR ALL", "CUE 2", "FOLLOWON 0", "CHAN 512@H0F 513@FL"),
+            (),
+        ):
+            self.assertLevels(text(*lines))
+        self.assertLevels(b"CUE 1\r\nCHAN 1@FL 7@3\x1a")
+
+    def test_all_channels(self):
+        channels = [f"{channel}@H{channel % 256:02X}" for channel in range(1, 4097)]
+        self.assertLevels(text("CUE 1", *(f"CHAN {each}" for each in channels), "CUE 2"))
+
+    def test_shows_by_chance(self):
+        r = random.Random(SEED)
+        tried = 0
+        while tried < 8:
+            content = inputs.show(r, 0.0)
+            if isinstance(shows.read(content), shows.Show):
+                tried += 1
+                with self.subTest(content):
+                    self.assertLevels(content)
 
 
 @unittest.skipUnless(CHROMIUM, MISSING)

@@ -2,12 +2,12 @@
 
 from dataclasses import dataclass
 
+from cueplayer_tools.channel_levels import Levels
 from cueplayer_tools.cue_list import Show, slot_of
 from cueplayer_tools.curves import ranges
 from cueplayer_tools.looks import Look, slots_in
 
 MOST_GROUPS = 12
-Levels = dict[int, int]
 
 
 @dataclass(frozen=True)
@@ -30,8 +30,8 @@ def percent(level: int) -> str:
     return "full" if level == 255 else f"{(level * 100 + 127) // 255}"
 
 
-def channel_levels(show: Show, look: Look) -> Levels:
-    """The level of each channel with a dimmer: the greatest of its slots."""
+def patched_levels(show: Show, look: Look) -> Levels:
+    """What the brightest dimmer of each patched channel gets."""
     slots = {universe: slots_in(text) for universe, text in look.items()}
     levels: Levels = {}
     for dimmer, channel in show.patch.items():
@@ -44,8 +44,8 @@ def channel_levels(show: Show, look: Look) -> Levels:
 def changes(before: Levels, after: Levels) -> list[Change]:
     """What changes from one look to the next: what rises, what falls, what goes out."""
     moved: dict[tuple[str, int], list[int]] = {}
-    for channel in sorted(after):
-        old, new = before.get(channel, 0), after[channel]
+    for channel in sorted(before.keys() | after.keys()):
+        old, new = before.get(channel, 0), after.get(channel, 0)
         if old != new:
             kind = "up" if new > old else "down" if new else "out"
             moved.setdefault((kind, new), []).append(channel)
@@ -66,3 +66,22 @@ def change_lines(found: list[Change]) -> list[tuple[str, str]]:
         more = sum(len(change.channels) for change in rest)
         lines.append(("and", f"{more} channel{'s' if more > 1 else ''} more"))
     return lines
+
+
+def patched_lines(found: list[Change], patched: Levels) -> list[tuple[str, str]]:
+    """Of the channels told, those whose dimmers get another level, and those that have none."""
+    others: dict[int, list[int]] = {}
+    bare = []
+    for change in found[:MOST_GROUPS]:
+        for channel in change.channels if change.level else ():
+            if channel not in patched:
+                bare.append(channel)
+            elif patched[channel] != change.level:
+                others.setdefault(patched[channel], []).append(channel)
+    words = [Change("", sorted(channels), level) for level, channels in sorted(others.items())]
+    lines = [("patched", "; ".join(_patched_words(each) for each in words))] if words else []
+    return [*lines, ("no dimmer", ranges(sorted(bare)))] if bare else lines
+
+
+def _patched_words(each: Change) -> str:
+    return f"{ranges(each.channels)} at\N{NO-BREAK SPACE}{percent(each.level)}"

@@ -6,9 +6,11 @@ import sys
 import tempfile
 from pathlib import Path
 
+from cueplayer_tools.channel_levels import levels_of
 from cueplayer_tools.cue_list import read_show
 from cueplayer_tools.files import read_whole, write_out
 from cueplayer_tools.looks import looks_of
+from cueplayer_tools.sheet_notes import notes_of
 from cueplayer_tools.sheet_page import Sheet, page_of
 from cueplayer_tools.words import Refused, count_of
 
@@ -23,9 +25,10 @@ def sheet_of(content: bytes, name: str, title: str | None) -> Sheet:
         file.write_bytes(content)
         show = read_show(str(file))
         looks = looks_of(str(file), show)
+        levels = levels_of(content, show, Path(folder))
     digest = hashlib.sha256(content).hexdigest()
     origin = f"{name}: {count_of(len(show.cues), 'cue')}, SHA-256 {digest}"
-    return Sheet(title or Path(name).name, origin, show, looks)
+    return Sheet(title or Path(name).name, origin, show, looks, levels, notes_of(content))
 
 
 def _parser() -> argparse.ArgumentParser:

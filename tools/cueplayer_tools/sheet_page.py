@@ -4,9 +4,12 @@ from dataclasses import dataclass
 from html import escape
 
 from cueplayer_tools.axis import clock
-from cueplayer_tools.cue_list import Cue, Rate, Record, Show
+from cueplayer_tools.channel_levels import Levels
+from cueplayer_tools.cue_list import Rate, Record, Show
 from cueplayer_tools.looks import Look
-from cueplayer_tools.sheet_changes import change_lines, changes, channel_levels
+from cueplayer_tools.sheet_changes import change_lines, changes, patched_levels, patched_lines
+from cueplayer_tools.sheet_notes import Notes, page_in
+from cueplayer_tools.sheet_patch import patch_words
 from cueplayer_tools.words import cue_word
 
 _STYLE = """
@@ -21,21 +24,22 @@ tr{break-inside:avoid}
 th{text-align:left;font-size:8.5pt;border-bottom:1.5pt solid #000;padding:1mm 2mm}
 td{vertical-align:baseline;border-bottom:.5pt solid #999;padding:1.5mm 2mm}
 .cues{table-layout:fixed}th,td{box-sizing:border-box}.cues td{overflow-wrap:anywhere}
-.number{width:13%}.name{width:21%}.time{width:11.5%}.what{width:29%;font-size:8.5pt}
-.call{width:14%}.held{width:52%}
+.number{width:13%}.name{width:22%}.time{width:10.5%}.what{width:26%;font-size:8.5pt}
+.page{width:6%}.call{width:12%}.held{width:52%}
 .cue{font-size:13pt;font-weight:700;white-space:nowrap}.label{font-weight:600}
 .follows{border-left:3pt solid #000}.small{font-size:8.5pt;font-weight:400}
 .kind{font-weight:700}.records{width:auto}
 @media screen{body{padding:10mm}}
 """
 _LEVELS = (
-    "What changes against the cue above, by channels; the level is that of a channel's brightest"
-    " dimmer, in percent."
+    "What changes against the cue above: channels, in percent. Where the patch gives dimmers"
+    " another level, that of the brightest stands behind it."
 )
 _UNPATCHED = "No dimmer is patched: no cue lights anything."
-# The columns, and their kinds. The last is empty: there the stage manager writes.
+# The columns, and their kinds. In the last, and where no page is named, the stage manager writes.
 _HEADS = (
     ("Cue", "number"),
+    ("Page", "page"),
     ("Label", "name"),
     ("Up", "time"),
     ("Down", "time"),
@@ -54,6 +58,9 @@ class Sheet:
     origin: str
     show: Show
     looks: dict[int, Look]
+    # Of each cue, the channels that are not at 0, and what the show says beside its label.
+    levels: dict[int, Levels]
+    notes: Notes
 
 
 def _rate(rate: Rate) -> str:
@@ -72,34 +79,40 @@ def _follow_ons(sheet: Sheet) -> dict[int, tuple[int, int]]:
     return found
 
 
-def _row(number: int, cue: Cue, by: tuple[int, int] | None, what: str) -> str:
+def _row(sheet: Sheet, number: int, by: tuple[int, int] | None, what: str) -> str:
     kind, by_itself = "", ""
     if by is not None:
         kind = ' class="follows"'
         told_by = f"by itself, {clock(by[1])} after cue {cue_word(by[0])}"
         by_itself = f'<div class="small">{told_by}</div>'
+    cue, notes = sheet.show.cues[number], sheet.notes.get(number, [])
+    told = [note for note in dict.fromkeys(notes) if note != cue.name]
+    small = "".join(f'<div class="small">{escape(note)}</div>' for note in told)
     return (
         f'<tr{kind}><td><span class="cue">{cue_word(number)}</span>{by_itself}</td>'
-        f'<td class="label">{escape(cue.name)}</td>'
+        f"<td>{escape(page_in(cue.name, notes))}</td>"
+        f'<td class="label">{escape(cue.name)}{small}</td>'
         f'<td class="time">{_rate(cue.rise)}</td><td class="time">{_rate(cue.fall)}</td>'
         f'<td class="what">{what}</td><td></td></tr>'
     )
 
 
-def _what(sheet: Sheet, number: int, before: dict[int, int]) -> tuple[str, dict[int, int]]:
-    """What a cue changes, and the levels behind it."""
-    after = channel_levels(sheet.show, sheet.looks[number])
-    lines = change_lines(changes(before, after))
+def _what(sheet: Sheet, number: int, before: Levels) -> str:
+    """What a cue changes against the levels before it."""
+    found = changes(before, sheet.levels[number])
+    lines = change_lines(found)
+    if sheet.show.patch:
+        lines += patched_lines(found, patched_levels(sheet.show, sheet.looks[number]))
     text = "".join(f'<div><span class="kind">{kind}</span> {what}</div>' for kind, what in lines)
-    return text or '<span class="faint">nothing</span>', after
+    return text or '<span class="faint">nothing</span>'
 
 
 def _cues(sheet: Sheet) -> list[str]:
     followed, rows = _follow_ons(sheet), []
-    before: dict[int, int] = {}
+    before: Levels = {}
     for number in sheet.show.order:
-        what, before = _what(sheet, number, before)
-        rows.append(_row(number, sheet.show.cues[number], followed.get(number), what))
+        rows.append(_row(sheet, number, followed.get(number), _what(sheet, number, before)))
+        before = sheet.levels[number]
     head = "".join(f'<th class="{kind}">{name}</th>' for name, kind in _HEADS)
     top = f'<table class="cues"><thead><tr>{head}</tr></thead><tbody>'
     return [top, *rows, "</tbody></table>"]
@@ -113,6 +126,14 @@ def _records(name: str, records: dict[int, Record]) -> list[str]:
         for number, record in sorted(records.items())
     ]
     return [f"<h2>{name}</h2>", '<table class="records"><tbody>', *rows, "</tbody></table>"]
+
+
+def _patch(show: Show) -> list[str]:
+    if not show.patch:
+        return []
+    told = "Channels, each with its slots: universe/slot, from universe 1, and the level at full."
+    words = "; ".join(each.replace(" ", "\N{NO-BREAK SPACE}") for each in patch_words(show))
+    return ["<h2>Patch</h2>", f'<p class="faint">{told}</p>', f"<p>{words}</p>"]
 
 
 def document_of(title: str, origin: str, explained: str, body: list[str]) -> str:
@@ -142,5 +163,6 @@ def page_of(sheet: Sheet) -> str:
         *_cues(sheet),
         *_records("Submasters", sheet.show.subs),
         *_records("Groups", sheet.show.groups),
+        *_patch(sheet.show),
     ]
     return document_of(sheet.title, sheet.origin, explained, body)
