@@ -18,7 +18,7 @@ from test_desk_folder import NO_RESUME
 from tooling import PATIENCE, TOOLS, Lines, Started, run_tool, wait_for
 from wire import OPTIONS, TERMINATED, terminal
 
-from cueplayer_tools import desk_record
+from cueplayer_tools import asking, desk_record, premiere_night
 from cueplayer_tools.words import Refused
 
 NAME = re.compile(r"show-\d{4}-\d\d-\d\dT\d{6}(-\d+)?\.play")
@@ -257,6 +257,17 @@ class BrokenOff(RecordTest):
             self.assertEqual(1, desk.wait(PATIENCE))
         self.assertEqual(([record], []), (self.records(), self.came(0.2)))
 
+    def test_show_that_was_changed(self):
+        """Its night cannot go on, which is told; nobody is asked."""
+        self.broken_night()
+        self.show.write_bytes(SHOW + b"CUE 3\n")
+        desk = Started(self, "desk", self.show, "--to", self.to, "--cid", self.cid)
+        desk.err.find("desk: a night .*; the show file has changed since, so this is a new night$")
+        page = Page(self, desk.out.next().removeprefix("desk: "))
+        page.wait(placed=True, current=None)
+        self.end(desk)
+        self.assertEqual(2, len(self.records()))
+
     def test_of_another_evening(self):
         """One that broke off long ago is not offered; it goes on if that is asked for."""
         record = self.broken_night()
@@ -296,7 +307,22 @@ class Names(FolderTest):
                 self.assertEqual(expected, desk_record.folder_beside(show))
         with mock.patch("os.access", return_value=False):
             with self.assertRaisesRegex(Refused, "--record FILE, or leave it out by --no-record"):
-                desk_record.folder_beside(show)
+                desk_record.new_record(show)
+            self.assertIsNone(desk_record.newest_record(show))
+            with self.assertRaisesRegex(Refused, "--night FOLDER names one"):
+                premiere_night.usual_folder(show)
+
+    def test_background(self):
+        """Who would be stopped for reading a terminal asks nobody."""
+        with mock.patch("sys.stdin") as stdin, mock.patch("sys.stderr") as stderr:
+            stdin.fileno.return_value = 0
+            for group, expected in ((os.getpgrp(), True), (os.getpgrp() + 1, False)):
+                with mock.patch("os.tcgetpgrp", return_value=group):
+                    self.assertEqual(expected, asking.is_at_terminal())
+            with mock.patch("os.tcgetpgrp", side_effect=OSError):
+                self.assertTrue(asking.is_at_terminal())
+            stderr.isatty.return_value = False
+            self.assertFalse(asking.is_at_terminal())
 
     def test_of_this_show(self):
         """Records of others, and other files, are not taken for its own."""

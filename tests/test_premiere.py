@@ -18,7 +18,7 @@ from test_desk_folder import NO_RESUME
 from tooling import PATIENCE, Lines, wait_for
 from wire import free_port, terminal
 
-from cueplayer_tools import premiere_command
+from cueplayer_tools import premiere_command, premiere_night
 from cueplayer_tools.cue_list import read_show
 from cueplayer_tools.premiere_night import Premiere
 from cueplayer_tools.premiere_show import Made, is_export
@@ -89,9 +89,7 @@ class Night(PremiereTest):
         pins = f"PIN {door.play} plays, {door.watch} only watches"
         self.assertEqual(f"page:   {opened}{pins}", steps[0])
         self.assertRegex(steps[1], r"^begin:  GO plays the next cue")
-        again = steps[2].removeprefix(
-            "if this window closes or dies, the light stays; to come back: "
-        )
+        again = steps[2].removeprefix("if this program dies, the light stays; to come back: ")
         self.assertEqual(self.typed()[1:], shlex.split(again)[1:])
         record, replies = self.night / "record", self.night / "replies"
         self.assertEqual(f"record: {record}; what happened stands in {replies}", steps[4])
@@ -156,6 +154,17 @@ class Night(PremiereTest):
             told = f"premiere: the page cannot be at {self.listen}: Address already in use; "
             status, err = self.refused()
         self.assertEqual((1, told), (status, err[: len(told)]))
+
+        words = ("--certificate", "/nowhere", "--key", "/nowhere")
+        told = "premiere: --certificate /nowhere, --key /nowhere: No such file or directory\n"
+        self.assertEqual((1, told), self.refused(*words))
+
+    def test_keeper_that_waits(self):
+        """Where nobody plays a night that is kept, that is told, with where to look."""
+        night = Premiere(self.night)
+        with mock.patch.object(premiere_night, "PATIENCE", 0.1):
+            with self.assertRaisesRegex(Refused, f"nobody plays the night yet.*{self.night}/replies"):
+                night.await_live()
 
     def test_cid_in_use(self):
         """No second night begins under one CID."""

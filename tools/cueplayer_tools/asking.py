@@ -1,13 +1,20 @@
 """Questions at a terminal."""
 
+import os
 import sys
 
 from cueplayer_tools.words import Refused
 
 
 def is_at_terminal() -> bool:
-    """Whether somebody can be asked."""
-    return sys.stdin.isatty() and sys.stderr.isatty()
+    """Whether somebody can be asked: who reads a terminal in the background is stopped."""
+    if not sys.stdin.isatty() or not sys.stderr.isatty():
+        return False
+    try:
+        return os.tcgetpgrp(sys.stdin.fileno()) == os.getpgrp()
+    except OSError:
+        # It is the terminal of others, which stops nobody.
+        return True
 
 
 def answer_to(question: str, answers: tuple[str, ...]) -> str:

@@ -115,15 +115,19 @@ def check_needs(parser: argparse.ArgumentParser, words: argparse.Namespace) -> N
         parser.error("--new-pins needs --listen")
 
 
-def _tls(certificate: str, key: str) -> ssl.SSLContext:
+def tls_context(words: argparse.Namespace) -> ssl.SSLContext | None:
+    """What encrypts the page, where that is asked for; Refused where it cannot be read."""
+    if words.certificate is None:
+        return None
     tls = ssl.SSLContext(ssl.PROTOCOL_TLS_SERVER)
     tls.minimum_version = ssl.TLSVersion.TLSv1_2
     try:
         # A key with a password is refused: nobody types it before a night.
-        tls.load_cert_chain(certificate, key, password="")
+        tls.load_cert_chain(words.certificate, words.key, password="")
     except OSError as fault:
         reason = fault.strerror or str(fault)
-        raise Refused(f"--certificate {certificate}, --key {key}: {reason}") from fault
+        named = f"--certificate {words.certificate}, --key {words.key}"
+        raise Refused(f"{named}: {reason}") from fault
     return tls
 
 
@@ -131,7 +135,7 @@ def pin_door(words: argparse.Namespace, tell: Callable[[str], None]) -> PinDoor 
     """Where others come in; None where nobody does."""
     if words.listen is None:
         return None
-    tls = None if words.certificate is None else _tls(words.certificate, words.key)
+    tls = tls_context(words)
     kept = PinFile(pin_file(words.night, words.listen[1]), tell)
     return PinDoor(words.listen, Pins(kept, words.new_pins), words.host, tls)
 

@@ -1,6 +1,7 @@
 """The record of a desk's night: a new one beside the show, or the one of a night that broke off."""
 
 import argparse
+import hashlib
 import os
 import re
 import shlex
@@ -14,7 +15,7 @@ from cueplayer_tools.keeper.folder import Folder, has_end
 from cueplayer_tools.keeper.locks import is_locked
 from cueplayer_tools.words import Refused, printable
 
-_HEAD = re.compile(r"! cueplayer record 1: .*\n! cid ([0-9a-f-]{36}), .*\n")
+_HEAD = re.compile(r"! cueplayer record 1: show ([0-9a-f]{64})\n! cid ([0-9a-f-]{36}), .*\n")
 _WHEN = r"-\d{4}-\d\d-\d\dT\d{6}(?:-\d+)?\.play"
 _MOST = 4096
 # A night that broke off longer ago is not this evening's.
@@ -26,19 +27,21 @@ def _named(path: Path) -> str:
     return printable(str(path), 300)
 
 
-def folder_beside(show: str) -> Path:
-    """Where a night's files go: beside its show, or here where nothing can be written there."""
-    beside = Path(show).absolute().parent
-    for folder in (beside, Path.cwd()):
+def folder_beside(show: str) -> Path | None:
+    """Where a night's files go: beside its show, or here where nothing can be written there; None
+    where nothing can be written here either."""
+    for folder in (Path(show).absolute().parent, Path.cwd()):
         if os.access(folder, os.W_OK | os.X_OK):
             return folder
-    told = f"no record can be kept in {_named(beside)}, nor here: name one by --record FILE"
-    raise Refused(f"{told}, or leave it out by --no-record")
+    return None
 
 
 def new_record(show: str) -> Path:
     """A name that no file has yet, by the date and the time."""
     folder = folder_beside(show)
+    if folder is None:
+        told = "no record can be kept beside the show, nor here"
+        raise Refused(f"{told}: name one by --record FILE, or leave it out by --no-record")
     name = f"{Path(show).stem}-{time.strftime('%Y-%m-%dT%H%M%S', time.localtime())}"
     for number in range(1, MOST_NAMES):
         file = folder / (f"{name}.play" if number == 1 else f"{name}-{number}.play")
@@ -50,7 +53,8 @@ def new_record(show: str) -> Path:
 def newest_record(show: str) -> Path | None:
     """The one of this show that was written last, if there is any."""
     folder, name = folder_beside(show), re.compile(re.escape(Path(show).stem) + _WHEN)
-    found = [each for each in folder.iterdir() if name.fullmatch(each.name) and each.is_file()]
+    files = () if folder is None else folder.iterdir()
+    found = [each for each in files if name.fullmatch(each.name) and each.is_file()]
     return max(found, key=_age_and_name) if found else None
 
 
@@ -70,26 +74,30 @@ def broke_off(file: Path) -> bool:
     return bool(tail) and not has_end(tail) and not _is_played(file)
 
 
-def _cid_in(file: Path) -> uuid.UUID | None:
-    """The CID of a record's night."""
+def _head_of(file: Path) -> tuple[str | None, uuid.UUID | None]:
+    """The checksum of the show in a record's head, and the CID."""
     head = Folder(str(file.parent)).read(file.name, 0, _MOST).decode("latin-1")
     found = _HEAD.match(head)
-    return None if found is None else uuid.UUID(found[1])
+    return (None, None) if found is None else (found[1], uuid.UUID(found[2]))
 
 
 def _is_of_this_evening(file: Path) -> bool:
     return abs(time.time() - file.stat().st_mtime) < SAME_EVENING
 
 
-def _offer(file: Path, tell: Callable[[str], None], command: list[str]) -> bool:
+def _offer(words: argparse.Namespace, file: Path, tell: Callable[[str], None]) -> bool:
     """Whether the night that broke off is to go on, instead of a new one: asked at a terminal, and
     else told how."""
     when = time.strftime("%H:%M", time.localtime(file.stat().st_mtime))
     told = f"a night of this show broke off at {when}: {_named(file)}"
+    if _head_of(file)[0] != hashlib.sha256(Path(words.show).read_bytes()).hexdigest():
+        tell(f"{told}; the show file has changed since, so this is a new night")
+        return False
     if is_at_terminal():
         return says_yes(f"desk: {told}\ndesk: y goes on where it was, n begins a new night: ")
-    words = printable(shlex.join([*command, "--record", str(file), "--resume"]), 2000)
-    tell(f"{told}; this is a new night, and this goes on with the other: {words}")
+    command = shlex.join([*words.command, "--record", str(file), "--resume"])
+    told = f"{told}; this is a new night, and this goes on with the other"
+    tell(f"{told}: {printable(command, 2000)}")
     return False
 
 
@@ -108,7 +116,7 @@ def _offered(words: argparse.Namespace, tell: Callable[[str], None]) -> Path | N
     newest = newest_record(words.show)
     if newest is None or not _is_of_this_evening(newest) or not broke_off(newest):
         return None
-    return newest if _offer(newest, tell, words.command) else None
+    return newest if _offer(words, newest, tell) else None
 
 
 def choose_record(words: argparse.Namespace, tell: Callable[[str], None]) -> None:
@@ -122,14 +130,16 @@ def choose_record(words: argparse.Namespace, tell: Callable[[str], None]) -> Non
         file = _offered(words, tell)
         words.resume = file is not None or None
     if words.resume and file is not None:
-        words.cid = words.cid or _cid_in(file)
+        words.cid = words.cid or _head_of(file)[1]
     words.record = str(file or new_record(words.show))
 
 
 def played_record(words: argparse.Namespace) -> str:
     """What to do once a `live` has ended that no desk has any more, and that has such a record."""
+    if words.no_record:
+        return ""
     given = None if words.record is None else Path(words.record)
     files = [each for each in (given, newest_record(words.show)) if each and each.is_file()]
-    if words.no_record or not any(map(_is_played, files)):
+    if not any(map(_is_played, files)):
         return ""
     return "; then the same command with --resume goes on where it was"

@@ -17,7 +17,13 @@ from cueplayer_tools.console_cid import console_cid
 from cueplayer_tools.cue_list import Show, read_show
 from cueplayer_tools.desk_command import SWITCH_EVERY, read_words, run_desk
 from cueplayer_tools.desk_doors import PinDoor
-from cueplayer_tools.desk_network import NETWORK_NAMES, USUAL_PORT, add_network, check_network
+from cueplayer_tools.desk_network import (
+    NETWORK_NAMES,
+    USUAL_PORT,
+    add_network,
+    check_network,
+    tls_context,
+)
 from cueplayer_tools.desk_pins import Role
 from cueplayer_tools.own_addresses import is_public, own_addresses
 from cueplayer_tools.premiere_night import Premiere, named, usual_folder
@@ -105,7 +111,8 @@ def _page_host() -> str | None:
 
 
 def _page(chosen: argparse.Namespace) -> Address | None:
-    """Where the page for the tablet is; Refused where another program has the port."""
+    """Where the page for the tablet is; Refused where it cannot be."""
+    tls_context(chosen)
     address: Address | None = chosen.listen
     if address is None:
         host = _page_host()
@@ -118,7 +125,8 @@ def _page(chosen: argparse.Namespace) -> Address | None:
                 tried.listen()
             except OSError as fault:
                 told = f"the page cannot be at {address[0]}:{address[1]}: {fault.strerror}"
-                raise Refused(f"{told}; --listen names another address or port") from fault
+                told += "; if it is there already, open it; --listen names another address or port"
+                raise Refused(told) from fault
     return address
 
 
@@ -185,6 +193,7 @@ def _go_on(night: Premiere) -> None:
     _hold_interrupts()
     if not night.folder.is_kept():
         night.start()
+    night.await_live()
 
 
 def _next_steps(night: Premiere, door: PinDoor | None, command: list[str]) -> list[str]:
@@ -198,7 +207,7 @@ def _next_steps(night: Premiere, door: PinDoor | None, command: list[str]) -> li
     return [
         f"page:   {page}",
         "begin:  GO plays the next cue; before the first one the stage is dark",
-        f"if this window closes or dies, the light stays; to come back: {shlex.join(command)}",
+        f"if this program dies, the light stays; to come back: {shlex.join(command)}",
         f"end:    hold `End the night`, under More, or type {night.command('end')}",
         f"record: {night.path / 'record'}; what happened stands in {night.path / 'replies'}",
     ]

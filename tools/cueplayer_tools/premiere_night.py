@@ -14,6 +14,8 @@ from cueplayer_tools.premiere_show import Made
 from cueplayer_tools.program import keeper
 from cueplayer_tools.words import Refused, printable
 
+# For how long a `live` may be away, in seconds.
+PATIENCE = 5.0
 # A keeper waits for the card of a night; words that are just typed may name a wrong one.
 _WAITS = " live waits for its network card: "
 # What is said of any night, or of words in general.
@@ -22,7 +24,10 @@ _NO_REASONS = ("night: ", "words refused", "show: ", "sends: ", "record: ")
 
 def usual_folder(show: str) -> Path:
     """Where the nights of a show are, if no other folder is named."""
-    return folder_beside(show) / f"{Path(show).stem}-night"
+    folder = folder_beside(show)
+    if folder is None:
+        raise Refused("nothing can be written beside the show, nor here: --night FOLDER names one")
+    return folder / f"{Path(show).stem}-night"
 
 
 def named(path: Path) -> str:
@@ -100,3 +105,13 @@ class Premiere:
         then = "the night goes on as soon as the card is there" if is_waiting else ""
         told = "; ".join([*reasons, "nothing was begun" if words else then]).rstrip("; ")
         raise Refused(told or f"cueplayer-night: status {status}")
+
+    def await_live(self) -> None:
+        """Waits until a `live` plays, which may just be started again; Refused where none does, as
+        while its keeper waits for a network card."""
+        until = time.monotonic() + PATIENCE
+        while not self.folder.is_played():
+            if time.monotonic() > until:
+                told = "its keeper goes on trying; the last lines say why"
+                raise Refused(f"nobody plays the night yet: {told}: {named(self.path / 'replies')}")
+            time.sleep(0.05)
