@@ -27,11 +27,15 @@ class Small:
     # named.
     rule: str | None = None
     caught: tuple[str, ...] = ()
+    # Cases of other rules that it cannot but break too.
+    also: dict[str, set[str]] = {}
     loss = 2500
 
     def __init__(self, universe):
         self.universe = universe
         self.sources = {}
+        # What the receivers of a node's universes share.
+        self.shared = {}
 
     def take(self, moment, data, sender):
         if not self.is_packet(data) or not self.is_here(data) or not self.is_known(data):
@@ -105,6 +109,15 @@ class Small:
         return {slot: level for slot, level in enumerate(shown, 1) if level}
 
 
+def node(kind, universes):
+    """The receivers of the universes of a node."""
+    receivers = {universe: kind(universe) for universe in universes}
+    first = next(iter(receivers.values()))
+    for each in receivers.values():
+        each.shared = first.shared
+    return receivers
+
+
 class TakesRepeats(Small):
     rule, caught = "numbering", ("30 then 30",)
 
@@ -174,6 +187,7 @@ class LosesTooEarly(Small):
 
 class NeverLoses(Small):
     rule, loss = "source lost", 1 << 40
+    also = {"universes of a source": {"one lost"}}
 
 
 class IgnoresTheEnd(Small):
@@ -261,10 +275,19 @@ class RefusesPriority200(Small):
 
 
 class KnowsSourcesByPort(Small):
-    rule = "CID"
+    rule, caught = "CID", ("another port",)
 
     def key(self, data, sender):
-        return data[22:38], sender
+        return data[22:38], sender[1]
+
+
+class KnowsSourcesByAddress(Small):
+    """As a receiver that takes a second network card of a console for a second console."""
+
+    rule, caught = "CID", ("another address",)
+
+    def key(self, data, sender):
+        return data[22:38], sender[0]
 
 
 class KnowsSourcesByName(Small):
@@ -290,6 +313,12 @@ class ComparesOneByteOfTheUniverse(Small):
 
 class ShowsAnyUniverse(Small):
     rule = "universe"
+    also = {
+        "universes of a source": {
+            *("one that is not shown", "5 behind", "in turn"),
+            *("priorities", "one ended", "one lost"),
+        }
+    }
 
     def is_here(self, data):
         return True
@@ -325,6 +354,74 @@ class StopsAtCutDatagrams(Small):
         self.has_stopped = self.has_stopped or len(data) < 126 and not is_extended
         if not self.has_stopped:
             super().take(moment, data, sender)
+
+
+class OneNumberForAllUniverses(Small):
+    """The second universe of each console is dark."""
+
+    rule = "universes of a source"
+    caught = ("one that is not shown", "5 behind", "in turn", "two sources")
+
+    def take(self, moment, data, sender):
+        if self.is_packet(data) and self.is_known(data) and self.has_levels(data):
+            cid, number = data[22:38], data[111]
+            last, universe, at = self.shared.get(cid, (number - 1, 0, moment))
+            # A packet that comes to all receivers of the node counts once.
+            is_same = (last, universe, at) == (number, two(data, 113), moment)
+            is_new = not is_same and (last - number) % 256 >= 20
+            if is_new or moment - at > self.loss:
+                self.shared[cid] = number, two(data, 113), moment
+            elif not is_same:
+                return
+        super().take(moment, data, sender)
+
+
+class OnePriorityForAllUniverses(Small):
+    """A console of higher priority in another universe silences this one."""
+
+    rule, caught = "universes of a source", ("priorities", "one lost")
+
+    def take(self, moment, data, sender):
+        if self.is_packet(data) and self.has_levels(data) and not self.is_preview(data):
+            self.shared[data[22:38]] = moment, 0 if self.ends(data) else data[108]
+        super().take(moment, data, sender)
+
+    def look(self, moment):
+        there = [rank for at, rank in self.shared.values() if moment - at < self.loss]
+        self.forget(moment)
+        lit = [one.priority for one in self.sources.values() if not one.is_over]
+        return super().look(moment) if max(there, default=0) <= max(lit, default=0) else {}
+
+
+class EndsAllUniverses(Small):
+    rule, caught = "universes of a source", ("one ended",)
+
+    def is_here(self, data):
+        return super().is_here(data) or self.ends(data)
+
+
+class LosesAllOrNone(Small):
+    """A universe of a source stays as long as another one goes on."""
+
+    rule, caught = "universes of a source", ("one lost",)
+
+    def take(self, moment, data, sender):
+        if self.is_packet(data) and not self.is_here(data) and data[22:38] in self.sources:
+            self.sources[data[22:38]].moment = moment
+        super().take(moment, data, sender)
+
+
+class DeafAfterSources(Small):
+    """Has a table of sources, and never frees a place in it."""
+
+    rule, most = "lost sources", 14
+
+    def take(self, moment, data, sender):
+        if len(data) >= 126:
+            self.shared.setdefault(data[22:38], None)
+            if data[22:38] not in list(self.shared)[: self.most]:
+                return
+        super().take(moment, data, sender)
 
 
 def blind_to(rule, first, last):
@@ -386,5 +483,11 @@ BREAKING = (
     ShowsStartCodes,
     ShowsPerAddressPriority,
     StopsAtCutDatagrams,
+    KnowsSourcesByAddress,
+    OneNumberForAllUniverses,
+    OnePriorityForAllUniverses,
+    EndsAllUniverses,
+    LosesAllOrNone,
+    DeafAfterSources,
     *OVERLOOKING,
 )

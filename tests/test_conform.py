@@ -6,13 +6,14 @@ import io
 import json
 import os
 import shutil
-import socket
-import threading
+import subprocess
+import sys
 import time
 import unittest
 
 import small_receivers
 import small_sources
+from conforming import CASES, InMemory, broken_cases, choices, serve, verdicts
 from expected.receiver import Receiver
 from machine import Late, witness
 from program import TOP, FolderTest, slots_in
@@ -21,16 +22,15 @@ from tooling import run_tool
 from wire import own_network
 
 from cueplayer_tools.conform.expected import slots_of
-from cueplayer_tools.conform.peers import PeerFault, SteppedClock
+from cueplayer_tools.conform.peers import SteppedClock
 from cueplayer_tools.conform.report import rules_found
 from cueplayer_tools.conform.rules import RULES
 from cueplayer_tools.conform.source_rules import RULES as SOURCE_RULES
 from cueplayer_tools.conform.source_rules import judged_source
 from cueplayer_tools.conform.streams import listening_of
-from cueplayer_tools.conform.trial import Setting, try_all
+from cueplayer_tools.conform.rounds import Setting, try_all
 from cueplayer_tools.conform_command import main
 
-CASES = {rule.name: {case.name for case in rule.cases} for rule in RULES}
 # A machine that stood still for so long, in milliseconds, may have held up a source.
 STALLED = 20
 PAGE, RESULTS = TOP / "docs/CONFORMANCE.md", TOP / "docs/conformance.json"
@@ -51,52 +51,10 @@ OURS = {
 }
 
 
-class InMemory:
-    """A peer of small receivers, a new one for each case, at moments that are told."""
-
-    name, version, keeps_time = "small", "1", True
-
-    def __init__(self, kind, clock, universes=range(1, 101)):
-        self.kind, self.clock, self.universes = kind, clock, universes
-        self.receivers = {}
-
-    def begin(self, universe):
-        self.receivers[universe] = self.kind(universe)
-
-    def send(self, universe, data, sender):
-        self.receivers[universe].take(self.clock.now(), data, sender)
-
-    def look(self, universe):
-        return self.receivers[universe].look(self.clock.now())
-
-    def close(self):
-        self.receivers.clear()
-
-
-def verdicts(kind, rules=RULES, **options):
-    clock = SteppedClock()
-    return try_all(Setting(lambda: InMemory(kind, clock, **options), clock), True, rules)
-
-
-def broken_cases(found):
-    """The cases that were broken, by their rules."""
-    cases = {}
-    for each in found:
-        if each.verdict == "broken":
-            cases.setdefault(each.rule.name, set()).add(each.case.name)
-    return cases
-
-
-def choices(found):
-    told = {}
-    for each in found:
-        if each.choice:
-            told.setdefault(each.rule.name, set()).add(each.choice)
-    return told
-
-
 class SecondReader(Receiver):
     """The tests' own reading of FORMATS."""
+
+    shared = None
 
     def take(self, moment, data, sender):
         super().take(moment, data)
@@ -153,13 +111,14 @@ class Receivers(unittest.TestCase):
         self.assertEqual(OURS, choices(found))
 
     def test_broken_ones(self):
-        """Each is caught by cases of the rule that it breaks, and by no other; each case catches
-        one."""
+        """Each is caught by cases of the rule that it breaks, and by no other that it need not
+        break; each case catches one."""
         catching = {name: set() for name in CASES}
         for kind in small_receivers.BREAKING:
             with self.subTest(kind.__name__):
                 caught = set(kind.caught) or CASES[kind.rule]
-                self.assertEqual({kind.rule: caught}, broken_cases(verdicts(kind)))
+                wanted = {kind.rule: caught, **kind.also}
+                self.assertEqual(wanted, broken_cases(verdicts(kind)))
                 catching[kind.rule] |= caught
         self.assertGreaterEqual(len(small_receivers.BREAKING), 20)
         for rule in RULES:
@@ -190,23 +149,6 @@ class Receivers(unittest.TestCase):
             self.assertEqual({}, broken_cases(found))
             self.assertEqual(choices(verdicts(kind)), choices(found))
 
-    def test_peer_that_ends(self):
-        """The case that ends it is broken, and the others are tried."""
-
-        class Ends(Small):
-            def take(self, moment, data, sender):
-                if len(data) < 126 and data[18:22] != b"\0\0\0\x08":
-                    raise PeerFault("it has ended")
-                super().take(moment, data, sender)
-
-        rules = tuple(
-            rule for rule in RULES if rule.name in ("cut datagrams", "preview", "START code")
-        )
-        for universes in (range(1, 10), (1,)):
-            found = verdicts(Ends, rules, universes=universes)
-            self.assertEqual({"cut datagrams": {"in the header"}}, broken_cases(found))
-            self.assertEqual({"broken", "kept"}, {each.verdict for each in found})
-
     def test_busy_machine(self):
         """Steps that come late prove nothing."""
 
@@ -218,7 +160,7 @@ class Receivers(unittest.TestCase):
         clock = SteppedClock()
         setting = Setting(lambda: InMemory(Slow, clock, range(1, 4)), clock)
         rules = tuple(rule for rule in RULES if rule.name == "START code")
-        found = try_all(setting, True, rules)
+        found = try_all(setting, rules).verdicts
         self.assertEqual({3}, {each.tries for each in found if each.verdict == "not tried"})
         self.assertEqual({}, broken_cases(found))
 
@@ -300,49 +242,24 @@ class Tool(FolderTest):
             raise Late(f"broken: {broken}; the machine stood still for {stalled:.0f} ms")
         self.assertKept(result, "seen")
 
-    @contextlib.contextmanager
-    def serve(self, kind, universes):
-        """A receiver of some universes on loopback, and the command that asks it."""
-        receivers = {universe: kind(universe) for universe in universes}
-        with socket.socket(socket.AF_INET, socket.SOCK_DGRAM) as listener:
-            listener.bind(("127.0.0.1", 0))
-            listener.settimeout(0.01)
-            is_over = threading.Event()
-
-            def serve():
-                while not is_over.is_set():
-                    with contextlib.suppress(TimeoutError):
-                        data, sender = listener.recvfrom(2048)
-                        for receiver in receivers.values():
-                            receiver.take(int(1000 * time.monotonic()), data, sender)
-                    for universe, receiver in receivers.items():
-                        shown = receiver.look(int(1000 * time.monotonic())).items()
-                        line = " ".join(["slots", *(f"{slot}:{level}" for slot, level in shown)])
-                        file = self.folder / f"new-{universe}"
-                        file.write_text(line + "\n")
-                        file.rename(self.folder / f"shown-{universe}")
-
-            server = threading.Thread(target=serve)
-            server.start()
-            try:
-                to = "127.0.0.1:{}".format(listener.getsockname()[1])
-                last = max(universes)
-                command = f"cat {self.folder}/shown-{{universe}}"
-                yield ("--to", to, "--universes", f"1-{last}", "--command", command)
-            finally:
-                is_over.set()
-                server.join()
-
     def test_command(self):
         """A receiver of the user's, over UDP and in real time."""
-        with self.serve(small_receivers.ShowsPreviews, range(1, 6)) as words:
-            time.sleep(0.2)
+        with serve(small_receivers.ShowsPreviews, range(1, 6), self.folder) as words:
             chosen = ("--rule", "preview", "--rule", "numbering")
             result = self.result("receiver", *words, *chosen)
         found = {rule["rule"]: rule["verdict"] for rule in result["rules"]}
         if "not tried" in found.values():
             self.skipTest("this machine is too busy")
         self.assertEqual({"numbering": "kept", "preview": "broken"}, found)
+
+    def test_second_address(self):
+        """A source that moves to another address of loopback."""
+        with serve(small_receivers.KnowsSourcesByAddress, range(1, 3), self.folder) as words:
+            result = self.result("receiver", *words, "--rule", "CID")
+        found = {case["case"]: case["verdict"] for case in result["rules"][0]["cases"]}
+        if "not tried" in found.values():
+            self.skipTest("this machine is too busy")
+        self.assertEqual({"another port": "kept", "another address": "broken"}, found)
 
     def test_table(self):
         """For people: a line for each rule, and how many came to what."""
@@ -402,6 +319,19 @@ class Others(unittest.TestCase):
         done = run_tool("conform", "receiver", peer, *chosen, "--json")
         self.assertIn(done.returncode, (0, 1), done.stderr)
         return {rule["rule"]: rule["verdict"] for rule in json.loads(done.stdout)["rules"]}
+
+    def test_open_lighting_as_another_root(self):
+        """Also where root is one of a user namespace, which knows no other user."""
+        if not shutil.which("olad") or not shutil.which("ola_patch"):
+            self.skipTest("no OLA is there")
+        own_network(self)
+        words = ("--user", "--map-root-user", "--net", sys.executable, TOP / "tools/conform")
+        words += ("receiver", "ola", "--rule", "preview")
+        done = subprocess.run(["unshare", *words], capture_output=True, text=True, timeout=120)
+        if "cannot make a network of its own" in done.stderr:
+            self.skipTest(done.stderr)
+        self.assertEqual("", done.stderr)
+        self.assertIn("preview", done.stdout)
 
     def test_open_lighting(self):
         tools = ("olad", "ola_dev_info", "ola_patch", "setpriv", "unshare", "ip")

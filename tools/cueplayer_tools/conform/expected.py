@@ -3,6 +3,7 @@ the moments at which they were sent."""
 
 import functools
 import tempfile
+from collections.abc import Sequence
 from dataclasses import dataclass
 from pathlib import Path
 
@@ -33,7 +34,8 @@ def slots_of(line: str) -> Slots:
 
 
 @functools.lru_cache(maxsize=4096)
-def _answers(script: str) -> tuple[str, ...]:
+def answers(script: str) -> tuple[str, ...]:
+    """What a rehearsal of these lines prints."""
     with tempfile.TemporaryDirectory() as folder:
         show, file = Path(folder, "show.asc"), Path(folder, "case.script")
         show.write_text("")
@@ -44,26 +46,29 @@ def _answers(script: str) -> tuple[str, ...]:
     return tuple(ended.printed.splitlines())
 
 
-def expected_slots(universe: int, done: list[Done], reading: str, slack: int) -> list[list[Slots]]:
+def expected_slots(
+    universes: Sequence[int], done: list[Done], reading: str, slack: int
+) -> list[list[Slots]]:
     """For each look what may be shown then by this reading: a look takes time, and a receiver may
     be late by `slack`, so there are up to three moments, and their answers."""
-    lines, asked, latest, number = [f"receiver {universe}"], [], 0, 0
+    lines, asked, latest, number = [f"receiver {each}" for each in universes], [], 0, 0
     for each in done:
         latest = max(latest, each.begun)
         if isinstance(each.step, Datagram):
             if each.step.is_heard(reading):
-                lines.append(f"{latest} stray 0 {each.step.data.hex()}")
+                data = each.step.data.hex()
+                lines += [f"{latest} stray {place} {data}" for place in range(len(universes))]
             continue
         # What had come by then had come so long before: a look waits.
         moments = [max(latest_sent(done, each), each.begun - slack), each.begun, each.ended]
         for moment in moments:
-            lines.append(f"{moment} slots 0")
+            lines.append(f"{moment} slots {each.step.place}")
             asked.append((number, len(lines) + 1))
         latest, number = each.ended, number + 1
-    answers = dict(line.split(" ", 1) for line in _answers(HEADER + "\n".join(lines) + "\n"))
+    replies = dict(line.split(" ", 1) for line in answers(HEADER + "\n".join(lines) + "\n"))
     found: list[list[Slots]] = [[] for _ in range(number)]
     for look, line in asked:
-        found[look].append(slots_of(answers[str(line)]))
+        found[look].append(slots_of(replies[str(line)]))
     return found
 
 

@@ -9,7 +9,7 @@ from pathlib import Path
 
 from cueplayer_tools.words import Refused
 
-HERE = "10.77.0.1"
+HERE, SECOND = "10.77.0.1", "10.77.0.2"
 # More groups than a machine joins unless it is told to.
 MEMBERSHIPS = Path("/proc/sys/net/ipv4/igmp_max_memberships")
 MOST_GROUPS = 200
@@ -19,6 +19,7 @@ LINK = (
     "link add stage type veth peer name hall",
     "link set hall up",
     f"addr add {HERE}/24 dev stage",
+    f"addr add {SECOND}/24 dev stage",
     "link set stage up",
     "route add 239.0.0.0/8 dev stage",
 )

@@ -6,8 +6,9 @@ import re
 import urllib.parse
 import urllib.request
 from collections.abc import Sequence
+from pathlib import Path
 
-from cueplayer_tools.conform.network import HERE
+from cueplayer_tools.conform.network import HERE, SECOND
 from cueplayer_tools.conform.peers import GROUPS, PATIENCE, PeerFault, Sockets
 from cueplayer_tools.conform.started import Program, need, told_by, version_of, wait_for
 from cueplayer_tools.rehearsal import Slots
@@ -23,12 +24,23 @@ PAGES = 9090
 LANES = 40
 
 
+def _as_nobody(folder: Path) -> list[str]:
+    """The words that run a program as another user than root, to whom a folder is given. A user
+    namespace that knows no other has one inside in which its root is nobody."""
+    try:
+        for each in (folder, *folder.iterdir()):
+            os.chown(each, NOBODY, NOBODY)
+    except OSError:
+        return ["unshare", "--user"]
+    return ["setpriv", f"--reuid={NOBODY}", f"--regid={NOBODY}", "--clear-groups"]
+
+
 class Daemon:
     """The daemon, with so many ports that receive, and so many that send."""
 
     def __init__(self, receiving: int, sending: int) -> None:
         need("olad", "ola_dev_info", "ola_patch", package="ola")
-        need("setpriv", package="util-linux")
+        need("setpriv", "unshare", package="util-linux")
         self.version = version_of("olad", "--version")
         self.program = Program("olad")
         folder = self.program.folder
@@ -36,11 +48,8 @@ class Daemon:
             (folder / f"ola-{name}.conf").write_text("enabled = false\n")
         ports = f"input_ports = {receiving}\noutput_ports = {sending}\n"
         (folder / "ola-e131.conf").write_text(f"enabled = true\nip = {HERE}\n{ports}")
-        for each in (folder, *folder.iterdir()):
-            os.chown(each, NOBODY, NOBODY)
-        user = ["setpriv", f"--reuid={NOBODY}", f"--regid={NOBODY}", "--clear-groups"]
         words = ["olad", "--config-dir", str(folder), "--http-port", str(PAGES)]
-        self.program.start(*user, *words, "--no-register-with-dns-sd")
+        self.program.start(*_as_nobody(folder), *words, "--no-register-with-dns-sd")
         self.device = str(wait_for(self._device, "olad does not start"))
 
     def _device(self) -> str | None:
@@ -71,17 +80,18 @@ class OpenLightingPeer:
     """Its universes, as its page `get_dmx` shows them."""
 
     name = "OLA"
-    keeps_time = True
+    keeps_time, moves, look_time = True, True, 0.0
 
     def __init__(self, lanes: int = LANES) -> None:
         self.daemon = Daemon(lanes, 0)
         self.version = self.daemon.version
         self.universes: Sequence[int] = range(1, lanes + 1)
+        self.pair: Sequence[int] = self.universes[:2]
         for port, universe in enumerate(self.universes):
             self.daemon.patch(port, universe, "-i")
-        self.sockets = Sockets(GROUPS, source=HERE)
+        self.sockets = Sockets(GROUPS, source=HERE, second=SECOND)
 
-    def begin(self, universe: int) -> None:
+    def begin(self, universes: Sequence[int]) -> None:
         pass
 
     def send(self, universe: int, data: bytes, sender: int) -> None:

@@ -4,7 +4,7 @@ from collections.abc import Iterator
 from pathlib import Path
 
 from cueplayer_tools.conform.report import Result, RuleFound
-from cueplayer_tools.conform.trial import BROKEN, CHOICE, KEPT, NOT_TRIED, SEEN
+from cueplayer_tools.conform.verdicts import BROKEN, CHOICE, KEPT, NOT_TRIED, SEEN
 from cueplayer_tools.words import Refused
 
 KINDS = ("receiver", "source")

@@ -8,6 +8,7 @@ import time
 from collections.abc import Sequence
 from typing import Protocol
 
+from cueplayer_tools.addresses import Address
 from cueplayer_tools.conform.capture import group_of
 from cueplayer_tools.conform.expected import slots_of
 from cueplayer_tools.program import program, run
@@ -18,6 +19,8 @@ PORT = 5568
 # Sends each universe to its own multicast group, as in the words of the program.
 GROUPS = "239.255.0.0"
 PATIENCE = 10
+# A second address of this machine, for packets to itself.
+SECOND_OF_LOOPBACK = "127.0.0.2"
 # Looks at all universes together take no longer, in seconds.
 LONGEST_LOOKS = 0.1
 
@@ -26,20 +29,30 @@ class PeerFault(Exception):
     """The peer ended or does not answer; the text says which."""
 
 
+class NetworkFault(PeerFault):
+    """This machine cannot send; the text says why."""
+
+
 class Peer(Protocol):
     """A receiver of some universes, which do not touch each other."""
 
     name: str
     version: str
     universes: Sequence[int]
+    # The two universes of a case of two; fewer where it has no two.
+    pair: Sequence[int]
+    # Whether it can be sent to from a second address.
+    moves: bool
     # Whether time goes by for it. One that takes all as of one moment loses no source.
     keeps_time: bool
+    # How long a look takes, in seconds.
+    look_time: float
 
-    def begin(self, universe: int) -> None:
-        """A case begins in this universe."""
+    def begin(self, universes: Sequence[int]) -> None:
+        """A case begins in these universes."""
 
     def send(self, universe: int, data: bytes, sender: int) -> None:
-        """Sends a datagram from one of two sockets."""
+        """Sends a datagram: 0 and 1 are two ports of one address, and 2 is another address."""
 
     def look(self, universe: int) -> Slots:
         """The slots that it shows and that are not 0."""
@@ -79,25 +92,43 @@ class SteppedClock(Clock):
 
 
 class Sockets:
-    """Two sockets of one address that send to a receiver, or each universe to its group."""
+    """Sockets that send to a receiver, or each universe to its group: two of one address, and one
+    of a second address where there is one. Loopback has many."""
 
-    def __init__(self, to: str = "127.0.0.1", port: int = PORT, source: str = "") -> None:
+    def __init__(
+        self, to: str = "127.0.0.1", port: int = PORT, source: str = "", second: str = ""
+    ) -> None:
         self.to, self.port = to, port
-        self.sockets = [socket.socket(socket.AF_INET, socket.SOCK_DGRAM) for _ in range(2)]
-        for each in self.sockets if source else ():
-            card = socket.inet_aton(source)
+        if not second and to.startswith("127."):
+            second = SECOND_OF_LOOPBACK
+        sources = [source, source, *([second] if second else [])]
+        self.sockets = [self._open(each) for each in sources]
+        self.moves = bool(second)
+
+    def _open(self, source: str) -> socket.socket:
+        opened = socket.socket(socket.AF_INET, socket.SOCK_DGRAM)
+        if source:
             try:
-                each.bind((source, 0))
-                each.setsockopt(socket.IPPROTO_IP, socket.IP_MULTICAST_IF, card)
+                opened.bind((source, 0))
+                card = socket.inet_aton(source)
+                opened.setsockopt(socket.IPPROTO_IP, socket.IP_MULTICAST_IF, card)
             except OSError as fault:
+                opened.close()
                 raise Refused(f"no card has {source}: {fault.strerror}") from fault
+        return opened
+
+    def route(self, universe: int, sender: int) -> tuple[Address, Address]:
+        """From where and to where a datagram goes."""
+        host = group_of(universe) if self.to == GROUPS else self.to
+        source, port = self.sockets[sender].getsockname()
+        return (source, port), (host, self.port)
 
     def send(self, universe: int, data: bytes, sender: int) -> None:
         host = group_of(universe) if self.to == GROUPS else self.to
         try:
             self.sockets[sender].sendto(data, (host, self.port))
         except OSError as fault:
-            raise Refused(f"{host}:{self.port}: {fault.strerror}") from fault
+            raise NetworkFault(f"{host}:{self.port}: {fault.strerror}") from fault
 
     def close(self) -> None:
         for each in self.sockets:
@@ -115,15 +146,17 @@ class CommandPeer:
         if not self.words:
             raise Refused("--command names no program")
         self.name, self.version = printable(command), "unknown"
-        self.sockets = sockets
+        self.sockets, self.moves = sockets, sockets.moves
+        self.pair: Sequence[int] = universes[:2]
         self.look(universes[0])
         begun = time.monotonic()
         self.look(universes[0])
+        self.look_time = time.monotonic() - begun
         # While it looks at one universe, no datagram goes to another.
-        at_a_time = int(LONGEST_LOOKS / (time.monotonic() - begun))
+        at_a_time = int(LONGEST_LOOKS / self.look_time)
         self.universes = universes[: max(1, at_a_time)]
 
-    def begin(self, universe: int) -> None:
+    def begin(self, universes: Sequence[int]) -> None:
         pass
 
     def send(self, universe: int, data: bytes, sender: int) -> None:
@@ -154,7 +187,8 @@ def slots_in(printed: str) -> Slots:
 class OwnPeer:
     """`cueplayer listen`, begun anew for each look, with all datagrams of the case so far."""
 
-    keeps_time = False
+    keeps_time, moves, look_time = False, True, 0.0
+    pair: Sequence[int] = (1, 2)
 
     def __init__(self) -> None:
         self.name = "cueplayer listen"
@@ -162,16 +196,20 @@ class OwnPeer:
         self.version = version[0].removeprefix("cueplayer ") if version else "unknown"
         self.universes: Sequence[int] = range(1, 100)
         self.came: dict[int, list[tuple[bytes, int]]] = {}
-        self.sockets = [socket.socket(socket.AF_INET, socket.SOCK_DGRAM) for _ in range(2)]
+        self.sockets = [socket.socket(socket.AF_INET, socket.SOCK_DGRAM) for _ in range(3)]
+        self.sockets[2].bind((SECOND_OF_LOOPBACK, 0))
 
-    def begin(self, universe: int) -> None:
-        self.came[universe] = []
+    def begin(self, universes: Sequence[int]) -> None:
+        # What comes for one of them comes to all.
+        self.came |= dict.fromkeys(universes, list[tuple[bytes, int]]())
 
     def send(self, universe: int, data: bytes, sender: int) -> None:
         self.came[universe].append((data, sender))
 
     def look(self, universe: int) -> Slots:
         came = self.came[universe]
+        if not came:
+            return {}
         words = [program(), "listen", "127.0.0.1:0", str(universe), str(len(came))]
         pipe = subprocess.PIPE
         with subprocess.Popen(words, text=True, stdout=pipe, stderr=pipe) as child:

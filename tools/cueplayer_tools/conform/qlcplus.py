@@ -7,7 +7,7 @@ import time
 from collections.abc import Sequence
 from pathlib import Path
 
-from cueplayer_tools.conform.network import HERE
+from cueplayer_tools.conform.network import HERE, SECOND
 from cueplayer_tools.conform.peers import GROUPS, PeerFault, Sockets
 from cueplayer_tools.conform.started import Program, need, version_of, wait_for
 from cueplayer_tools.rehearsal import Slots
@@ -63,10 +63,11 @@ class QlcPlusPeer:
     """Its universes, as it hands them on."""
 
     name = "QLC+"
-    keeps_time = True
+    keeps_time, moves, look_time = True, True, 0.0
 
     def __init__(self, lanes: int = LANES) -> None:
         self.universes: Sequence[int] = range(1, lanes + 1)
+        self.pair: Sequence[int] = self.universes[:2]
         self.shown: dict[int, tuple[float, bytes]] = {}
         self.reader = socket.socket(socket.AF_INET, socket.SOCK_DGRAM)
         self.reader.setsockopt(socket.SOL_SOCKET, socket.SO_RCVBUF, 1 << 22)
@@ -77,7 +78,7 @@ class QlcPlusPeer:
         self.thread.start()
         self.qlcplus = QlcPlus(lanes)
         self.version = self.qlcplus.version
-        self.sockets = Sockets(GROUPS, source=HERE)
+        self.sockets = Sockets(GROUPS, source=HERE, second=SECOND)
         wait_for(lambda: len(self.shown) == lanes, "qlcplus does not start")
 
     def _read(self) -> None:
@@ -89,7 +90,7 @@ class QlcPlusPeer:
             universe = int.from_bytes(data[113:115], "big") - FURTHER
             self.shown[universe] = time.monotonic(), data[126:]
 
-    def begin(self, universe: int) -> None:
+    def begin(self, universes: Sequence[int]) -> None:
         pass
 
     def send(self, universe: int, data: bytes, sender: int) -> None:

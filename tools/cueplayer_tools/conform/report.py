@@ -4,12 +4,11 @@ from collections.abc import Iterable
 from dataclasses import dataclass, field
 from typing import Any
 
-from cueplayer_tools.conform.trial import BROKEN, CHOICE, KEPT, NOT_TRIED, SEEN, Verdict
-from cueplayer_tools.rehearsal import Slots
+from cueplayer_tools.conform import diagnoses
+from cueplayer_tools.conform.diagnoses import DARK, ENDED, IS_DEAF, Diagnosis, slots_text
+from cueplayer_tools.conform.verdicts import BROKEN, CHOICE, KEPT, NOT_TRIED, SEEN, Verdict
 
 CLAUSES = "E1.31"
-# Longer slots lines are cut for people.
-MOST_SLOTS = 8
 COUNTED = (KEPT, BROKEN, CHOICE, SEEN, NOT_TRIED)
 # A rule is what the first of these is that one of its cases is.
 ORDER = (BROKEN, CHOICE, KEPT, SEEN, NOT_TRIED)
@@ -56,6 +55,7 @@ class Result:
     date: str
     by: str
     rules: tuple[RuleFound, ...] = field(default=())
+    diagnoses: tuple[Diagnosis, ...] = field(default=())
 
     @property
     def title(self) -> str:
@@ -64,7 +64,16 @@ class Result:
 
     @property
     def is_broken(self) -> bool:
-        return any(each.verdict == BROKEN for each in self.rules)
+        """Whether a rule is, or the receiver as a whole."""
+        return any(each.verdict == BROKEN for each in self.rules) or any(
+            each.what in (ENDED, IS_DEAF) for each in self.diagnoses
+        )
+
+    @property
+    def is_tried(self) -> bool:
+        return any(each.verdict != NOT_TRIED for each in self.rules) and not any(
+            each.what == DARK for each in self.diagnoses
+        )
 
     def count_text(self) -> str:
         """How many rules there are, and how many came to what."""
@@ -77,13 +86,6 @@ class Result:
 
 def _plural(verdict: str, count: int) -> str:
     return verdict + ("s" if verdict == CHOICE and count > 1 else "")
-
-
-def slots_text(slots: Slots) -> str:
-    """The first slots of a look."""
-    pairs = [f"{slot}:{level}" for slot, level in sorted(slots.items())]
-    cut = [".."] if len(pairs) > MOST_SLOTS else []
-    return " ".join(["slots", *pairs[:MOST_SLOTS], *cut]) if pairs else "no light"
 
 
 def finding_of(verdict: Verdict) -> Finding:
@@ -136,6 +138,7 @@ def as_json(result: Result) -> dict[str, object]:
             }
             for each in result.rules
         ],
+        "diagnoses": [each.as_json() for each in result.diagnoses],
     }
 
 
@@ -151,8 +154,9 @@ def from_json(said: dict[str, Any]) -> Result:
         )
         for rule in said["rules"]
     )
+    told = tuple(map(diagnoses.from_json, said.get("diagnoses", ())))
     return Result(
-        said["kind"], said["peer"], said["version"], said["date"], said["by"], rules
+        said["kind"], said["peer"], said["version"], said["date"], said["by"], rules, told
     )  # fmt: skip
 
 
@@ -166,4 +170,5 @@ def table(result: Result) -> str:
         says = each.says()
         told = f"{each.verdict}: {says}" if says else each.verdict
         lines.append(f" {each.rule:{widest}}  {each.clause:{clause}}  {told}")
-    return "\n".join([*lines, "", result.count_text()])
+    remarks = [line for each in result.diagnoses for line in each.lines()]
+    return "\n".join([*lines, "", *remarks, result.count_text()])

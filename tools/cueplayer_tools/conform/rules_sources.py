@@ -1,11 +1,13 @@
 """Rules of several sources: priority, how they are merged, how many there may be, who is who."""
 
 from cueplayer_tools.conform.packets import DataPacket
-from cueplayer_tools.conform.script import Case, Rule, Script
+from cueplayer_tools.conform.script import PAUSE, Case, Rule, Script
 
 # How far another universe is, of which the low byte is the same, and of which none is.
 OF_ONE_BYTE, OF_NONE = 256 * 37, 20_000
 LAST_UNIVERSE = 63_999
+# The sockets of a trial beside the first.
+SECOND_PORT, SECOND_ADDRESS = 1, 2
 
 
 def _higher(script: Script) -> None:
@@ -107,11 +109,18 @@ def _lit(packets: list[DataPacket]) -> bytes:
     return bytes(map(max, *(packet.slots for packet in packets), bytes(512)))
 
 
-def _move(script: Script) -> None:
-    one = script.source()
-    one.send({1: 50})
-    script.send(one.packet({1: 20}), sender=1)
-    script.look("a source that sends from another port is the same source")
+def _moved(sender: int, name: str) -> Case:
+    """A source that sends on from elsewhere, and comes back."""
+
+    def write(script: Script) -> None:
+        one = script.source()
+        one.send({1: 50})
+        script.send(one.packet({1: 20}), sender=sender)
+        script.look(f"a source that sends from {name} is the same source")
+        one.send({1: 10})
+        script.look(f"a source that comes back from {name} is the same source")
+
+    return Case(name, write, moves=sender == SECOND_ADDRESS)
 
 
 def _named_anew(script: Script) -> None:
@@ -139,6 +148,22 @@ def _other_universe(further: int, about: str) -> Case:
         script.look(about)
 
     return Case(about, write)
+
+
+# Of sources that come and go: so many at a time, each time behind the loss of all before.
+TIMES, AT_A_TIME, LOST = 5, 4, 3000
+
+
+def _come_and_go(script: Script) -> None:
+    """A receiver that keeps lost sources has no room for more at some time."""
+    for time in range(TIMES):
+        for number in range(AT_A_TIME):
+            one = script.source()
+            wait = LOST if time and not number else PAUSE
+            script.send(one.packet({1: 10 + AT_A_TIME * time + number}), wait)
+            if not number:
+                script.look(f"{len(script.sources)} sources, all but the last of them lost")
+            one.end()
 
 
 RULES = (
@@ -188,7 +213,18 @@ RULES = (
             ),
         ),
     ),
-    Rule("CID", "5.6", "A source is its CID, wherever it sends from", (Case("moved", _move),)),
+    Rule(
+        "lost sources",
+        "6.7.1",
+        "A source that is lost leaves room for another",
+        (Case(f"{TIMES * AT_A_TIME} sources", _come_and_go),),
+    ),
+    Rule(
+        "CID",
+        "5.6",
+        "A source is its CID, wherever it sends from",
+        (_moved(SECOND_PORT, "another port"), _moved(SECOND_ADDRESS, "another address")),
+    ),
     Rule(
         "source name",
         "6.2.2",

@@ -21,15 +21,16 @@ _NAMES = uuid.UUID("c0ffee00-0000-4000-8000-00000000e131")
 
 @dataclass(frozen=True)
 class Datagram:
-    """One that is sent, so many milliseconds after the step before, by one of two sockets. It is
-    heard in every reading but those in `unheard`. One that has `only` is heard in that reading,
-    and is not sent."""
+    """One that is sent, so many milliseconds after the step before, by one of the sockets, to the
+    first or the second universe of the case. It is heard in every reading but those in `unheard`.
+    One that has `only` is heard in that reading, and is not sent."""
 
     data: bytes
     wait: int = PAUSE
     sender: int = 0
     unheard: frozenset[str] = frozenset()
     only: str | None = None
+    place: int = 0
 
     def is_heard(self, reading: str) -> bool:
         return reading not in self.unheard if self.only is None else reading == self.only
@@ -37,10 +38,11 @@ class Datagram:
 
 @dataclass(frozen=True)
 class Look:
-    """A look at the slots, and what it is about."""
+    """A look at the slots of one of the universes, and what it is about."""
 
     wait: int
     about: str
+    place: int = 0
 
 
 Step = Datagram | Look
@@ -71,15 +73,21 @@ class Source:
     def send(self, levels: dict[int, int], **fields: object) -> None:
         self.script.send(self.packet(levels, **fields))
 
+    def send_there(self, levels: dict[int, int], **fields: object) -> None:
+        """The same, to the second universe."""
+        packet = self.packet(levels, universe=self.script.other, **fields)
+        self.script.send(packet, place=1)
+
     def end(self) -> None:
         self.send({}, options=TERMINATED)
 
 
 @dataclass
 class Script:
-    """The steps of a case in one universe, as they are written down."""
+    """The steps of a case in its universe, or in two, as they are written down."""
 
     universe: int
+    other: int
     salt: str = ""
     number: int = 9
     steps: list[Step] = field(default_factory=list)
@@ -96,9 +104,10 @@ class Script:
         wait: int = PAUSE,
         sender: int = 0,
         unheard: tuple[str, ...] = (),
+        place: int = 0,
     ) -> None:
         data = packet if isinstance(packet, bytes) else packet.to_bytes()
-        self.steps.append(Datagram(data, wait, sender, frozenset(unheard)))
+        self.steps.append(Datagram(data, wait, sender, frozenset(unheard), place=place))
 
     def as_if(self, reading: str, packet: DataPacket, wait: int = 0) -> None:
         """To a receiver of this reading all is as if this had come."""
@@ -107,27 +116,34 @@ class Script:
     def look(self, about: str, wait: int = SETTLE) -> None:
         self.steps.append(Look(wait, about))
 
+    def look_there(self, about: str, wait: int = SETTLE) -> None:
+        """The same, at the second universe."""
+        self.steps.append(Look(wait, about, 1))
+
 
 @dataclass(frozen=True)
 class Case:
     """A case of a rule. `plain` names the choice of the plain reading where the standard leaves
     one, and `readings` the others; a receiver of none of them breaks the rule, unless the case
-    `is_open`: then what it does is told, and no more."""
+    `is_open`: then what it does is told, and no more. One that `is_wide` needs two universes, and
+    one that `moves` a second address to send from."""
 
     name: str
     write: Callable[[Script], None]
     plain: str = ""
     readings: tuple[str, ...] = ()
     is_open: bool = False
+    is_wide: bool = False
+    moves: bool = False
 
-    def script(self, universe: int, salt: str = "") -> Script:
-        script = Script(universe, f"{salt}/{self.name}")
+    def script(self, universe: int, other: int = 0, salt: str = "") -> Script:
+        script = Script(universe, other, f"{salt}/{self.name}")
         self.write(script)
         return script
 
     def lasts(self) -> int:
         """Milliseconds from its first step to its last."""
-        return sum(step.wait for step in self.script(1).steps)
+        return sum(step.wait for step in self.script(1, 2).steps)
 
 
 @dataclass(frozen=True)

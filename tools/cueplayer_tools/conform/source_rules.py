@@ -14,7 +14,7 @@ from cueplayer_tools.conform.streams import (
     is_extended,
     two,
 )
-from cueplayer_tools.conform.trial import BROKEN, KEPT, NOT_TRIED, SEEN
+from cueplayer_tools.conform.verdicts import BROKEN, KEPT, NOT_TRIED, SEEN
 from cueplayer_tools.words import printable
 
 # In seconds. What listens is late by a little.
