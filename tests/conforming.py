@@ -35,6 +35,9 @@ class InMemory:
         self.receivers |= node
         self.groups |= dict.fromkeys(universes, node)
 
+    def route(self, universe, sender):
+        return self.senders[sender], ("127.0.0.1", 5568)
+
     def send(self, universe, data, sender):
         for receiver in self.groups[universe].values():
             receiver.take(self.clock.now(), data, self.senders[sender])
@@ -87,15 +90,19 @@ def write_shown(folder, universe, slots):
 
 def run_node(kind, universes, listener, folder, is_over):
     """Receives until it is over, or a receiver ends; then nothing is shown any more."""
-    receivers = small_receivers.node(kind, universes)
+    receivers, shown = small_receivers.node(kind, universes), {}
     try:
         while not is_over.is_set():
             with contextlib.suppress(TimeoutError):
                 data, sender = listener.recvfrom(2048)
+                moment = int(1000 * time.monotonic())
                 for receiver in receivers.values():
-                    receiver.take(int(1000 * time.monotonic()), data, sender)
+                    receiver.take(moment, data, sender)
             for universe, receiver in receivers.items():
-                write_shown(folder, universe, receiver.look(int(1000 * time.monotonic())))
+                slots = receiver.look(int(1000 * time.monotonic()))
+                if shown.get(universe) != slots:
+                    write_shown(folder, universe, slots)
+                shown[universe] = slots
     except PeerFault:
         for universe in universes:
             (folder / f"shown-{universe}").unlink(missing_ok=True)

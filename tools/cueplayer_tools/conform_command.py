@@ -10,10 +10,13 @@ import time
 from collections.abc import Callable
 from pathlib import Path
 
+from cueplayer_tools.conform.baseline import baseline_in, differences
 from cueplayer_tools.conform.capture import hear, open_listener
+from cueplayer_tools.conform.captured import write_captures, write_heard, write_text
 from cueplayer_tools.conform.command_words import chosen_words
 from cueplayer_tools.conform.diagnoses import diagnoses_of, kept
 from cueplayer_tools.conform.estimate import seconds_of
+from cueplayer_tools.conform.junit import junit
 from cueplayer_tools.conform.network import enter_own_network
 from cueplayer_tools.conform.open_lighting import OpenLightingPeer
 from cueplayer_tools.conform.page import page
@@ -56,6 +59,8 @@ SOURCES: dict[str, Callable[[], PlayedSource]] = {
     "qlcplus": QlcPlusSource,
 }
 LISTENS, PLAYS = 60.0, 16.0
+# The exit statuses but 0.
+BROKEN, UNTRIED, DIFFERS = 1, 2, 3
 
 
 def _ourselves() -> str:
@@ -96,9 +101,12 @@ def receiver_result(words: argparse.Namespace) -> Result:
 
     rules = tuple(each for each in RULES if not words.rule or each.name in words.rule)
     clock = SteppedClock() if words.peer == "cueplayer" else Clock()
-    salt = f"{time.time_ns()}/{os.getpid()}"
+    begun = time.time_ns()
+    salt = f"{begun}/{os.getpid()}"
     tried = try_all(Setting(start, clock, settle, salt, words.patience, tell), rules)
     peer, found = known[0], rules_found(tried.verdicts)
+    if words.pcap:
+        write_captures(words.pcap, tried.played + tried.cut_off, peer.route, begun // 1000)
     told = kept(diagnoses_of(tried), words.keep)
     return Result("receiver", peer.name, peer.version, _today(), _ourselves(), found, told)
 
@@ -118,6 +126,8 @@ def source_result(words: argparse.Namespace) -> Result:
             came = hear(listener, seconds)
     if words.of:
         came = [each for each in came if each.sender[0] == words.of[0]]
+    if words.pcap:
+        write_heard(words.pcap, came)
     packets = listening_of(came, begun, time.time())
     if not packets.packets:
         raise Refused(f"no data packet came within {seconds:g} s")
@@ -152,11 +162,22 @@ def _tried(chosen: argparse.Namespace, words: list[str]) -> int:
     """Tries a receiver or a source, and tells what came of it."""
     if chosen.peer in ("ola", "qlcplus"):
         enter_own_network(SCRIPT, words)
+    known = read_results(chosen.baseline) if chosen.baseline else []
     result = receiver_result(chosen) if chosen.kind == "receiver" else source_result(chosen)
-    print(json.dumps(as_json(result), indent=1) if chosen.json else table(result))
+    before = baseline_in(known, result, chosen.baseline) if known else result
+    differs = differences(result, before)
+    if chosen.junit:
+        write_text(chosen.junit, junit(result, differs))
+    if chosen.json:
+        told = as_json(result)
+        told |= {"differs": [vars(each) for each in differs]} if known else {}
+        print(json.dumps(told, indent=1))
+    else:
+        print(table(result))
+        print("".join(f"other than before: {each.line()}\n" for each in differs), end="")
     if not result.is_tried:
-        return 2
-    return 1 if result.is_broken else 0
+        return UNTRIED
+    return BROKEN if result.is_broken else DIFFERS if differs else 0
 
 
 def main(words: list[str]) -> int:

@@ -54,8 +54,13 @@ def _number(least: float, most: float) -> Callable[[str], float]:
 
 
 def _add_peer(kind: argparse.ArgumentParser) -> None:
-    kind.add_argument("peer", metavar="PEER", nargs="?", choices=PEERS, help=", ".join(PEERS))
-    kind.add_argument("--json", action="store_true", help="prints the result as JSON")
+    add = kind.add_argument
+    add("peer", metavar="PEER", nargs="?", choices=PEERS, help=", ".join(PEERS))
+    add("--json", action="store_true", help="prints the result as JSON")
+    add("--junit", metavar="FILE", help="writes the result as JUnit XML")
+    add("--pcap", metavar="FILE", help="writes what was sent or heard, as pcapng; for a receiver "
+        "a name that does not end in .pcapng is a folder, with a file for each case")  # fmt: skip
+    add("--baseline", metavar="FILE", help="tells what is other than in this result of --json")
 
 
 def _add_node(kind: argparse.ArgumentParser) -> None:

@@ -16,6 +16,7 @@ class NoPeer:
     def __init__(self, peer: Peer, clock: SteppedClock) -> None:
         self.universes, self.pair, self.clock = peer.universes, peer.pair, clock
         self.look_time, self.looks = peer.look_time, 0
+        self.route = peer.route
 
     def begin(self, universes: Sequence[int]) -> None:
         pass

@@ -90,6 +90,7 @@ class OpenLightingPeer:
         for port, universe in enumerate(self.universes):
             self.daemon.patch(port, universe, "-i")
         self.sockets = Sockets(GROUPS, source=HERE, second=SECOND)
+        self.route = self.sockets.route
 
     def begin(self, universes: Sequence[int]) -> None:
         pass

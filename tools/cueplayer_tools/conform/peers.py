@@ -1,5 +1,6 @@
 """What is tried: a receiver that is sent datagrams, and asked what it shows."""
 
+import functools
 import re
 import shlex
 import socket
@@ -19,6 +20,7 @@ PORT = 5568
 # Sends each universe to its own multicast group, as in the words of the program.
 GROUPS = "239.255.0.0"
 PATIENCE = 10
+ANY = "0.0.0.0"
 # A second address of this machine, for packets to itself.
 SECOND_OF_LOOPBACK = "127.0.0.2"
 # Looks at all universes together take no longer, in seconds.
@@ -53,6 +55,9 @@ class Peer(Protocol):
 
     def send(self, universe: int, data: bytes, sender: int) -> None:
         """Sends a datagram: 0 and 1 are two ports of one address, and 2 is another address."""
+
+    def route(self, universe: int, sender: int) -> tuple[Address, Address]:
+        """From where and to where such a datagram goes."""
 
     def look(self, universe: int) -> Slots:
         """The slots that it shows and that are not 0."""
@@ -103,25 +108,26 @@ class Sockets:
             second = SECOND_OF_LOOPBACK
         sources = [source, source, *([second] if second else [])]
         self.sockets = [self._open(each) for each in sources]
+        self.addresses = [each.getsockname() for each in self.sockets]
         self.moves = bool(second)
 
     def _open(self, source: str) -> socket.socket:
         opened = socket.socket(socket.AF_INET, socket.SOCK_DGRAM)
-        if source:
-            try:
-                opened.bind((source, 0))
+        try:
+            opened.bind((source, 0))
+            if source:
                 card = socket.inet_aton(source)
                 opened.setsockopt(socket.IPPROTO_IP, socket.IP_MULTICAST_IF, card)
-            except OSError as fault:
-                opened.close()
-                raise Refused(f"no card has {source}: {fault.strerror}") from fault
+        except OSError as fault:
+            opened.close()
+            raise Refused(f"no card has {source}: {fault.strerror}") from fault
         return opened
 
     def route(self, universe: int, sender: int) -> tuple[Address, Address]:
         """From where and to where a datagram goes."""
-        host = group_of(universe) if self.to == GROUPS else self.to
-        source, port = self.sockets[sender].getsockname()
-        return (source, port), (host, self.port)
+        to = (group_of(universe) if self.to == GROUPS else self.to, self.port)
+        host, port = self.addresses[sender]
+        return (_source_to(to) if host == ANY else host, port), to
 
     def send(self, universe: int, data: bytes, sender: int) -> None:
         host = group_of(universe) if self.to == GROUPS else self.to
@@ -133,6 +139,17 @@ class Sockets:
     def close(self) -> None:
         for each in self.sockets:
             each.close()
+
+
+@functools.cache
+def _source_to(to: Address) -> str:
+    """The address that this machine sends from, by its route."""
+    with socket.socket(socket.AF_INET, socket.SOCK_DGRAM) as asked:
+        try:
+            asked.connect(to)
+            return str(asked.getsockname()[0])
+        except OSError:
+            return ANY
 
 
 class CommandPeer:
@@ -148,6 +165,7 @@ class CommandPeer:
         self.name, self.version = printable(command), "unknown"
         self.sockets, self.moves = sockets, sockets.moves
         self.pair: Sequence[int] = universes[:2]
+        self.route = sockets.route
         self.look(universes[0])
         begun = time.monotonic()
         self.look(universes[0])
@@ -205,6 +223,11 @@ class OwnPeer:
 
     def send(self, universe: int, data: bytes, sender: int) -> None:
         self.came[universe].append((data, sender))
+
+    def route(self, universe: int, sender: int) -> tuple[Address, Address]:
+        # Each look has sockets of its own.
+        host = SECOND_OF_LOOPBACK if sender == 2 else "127.0.0.1"
+        return (host, PORT + 1 + sender), ("127.0.0.1", PORT)
 
     def look(self, universe: int) -> Slots:
         came = self.came[universe]

@@ -79,6 +79,7 @@ class QlcPlusPeer:
         self.qlcplus = QlcPlus(lanes)
         self.version = self.qlcplus.version
         self.sockets = Sockets(GROUPS, source=HERE, second=SECOND)
+        self.route = self.sockets.route
         wait_for(lambda: len(self.shown) == lanes, "qlcplus does not start")
 
     def _read(self) -> None:

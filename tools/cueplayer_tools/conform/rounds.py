@@ -40,12 +40,14 @@ class Setting:
 @dataclass
 class Tried:
     """What a trial came to: the verdicts, how the receiver ended, whether it was deaf, and all
-    that was played. `stopped` says why no more could be tried, once the peer `has_begun`."""
+    that was played, or `cut_off` when the receiver ended. `stopped` says why no more could be
+    tried, once the peer `has_begun`."""
 
     verdicts: list[Verdict] = field(default_factory=list)
     deaths: list[Death] = field(default_factory=list)
     deaf: list[Deaf] = field(default_factory=list)
     played: list[Played] = field(default_factory=list)
+    cut_off: list[Played] = field(default_factory=list)
     stopped: str = ""
     has_begun: bool = False
 
@@ -116,6 +118,7 @@ class Round:
                 raise Refused(str(fault)) from fault
             self.tried.stopped, death = str(fault), None
         self.tried.played += trial.played
+        self.tried.cut_off += trial.cut_off
         for each in trial.played:
             self._note(judge(each, self.setting.settle))
         for deaf in trial.deaf:
@@ -154,7 +157,9 @@ class Round:
         if peer is None:
             return death
         salt = self.salt + "/careful"
-        again = Trial(peer, self.setting.clock, self.setting.settle, salt, True).play([named])
+        trial = Trial(peer, self.setting.clock, self.setting.settle, salt, True)
+        again = trial.play([named])
+        self.tried.cut_off += trial.cut_off
         return again if again and again.sent else death
 
     def _rest(self) -> None:

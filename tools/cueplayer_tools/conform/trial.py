@@ -70,8 +70,10 @@ class Trial:
     ) -> None:  # fmt: skip
         self.peer, self.clock, self.settle, self.salt = peer, clock, settle, salt
         self.is_careful = is_careful
-        # What was played so far, and what is in play, also where the peer ends.
+        # Also where the peer ends.
         self.played: list[Played] = []
+        # What was in play when the peer ended.
+        self.cut_off: list[Played] = []
         self.lanes: list[Lane] = []
         self.lane: Lane | None = None
         self.wide: list[Named] = []
@@ -97,6 +99,9 @@ class Trial:
         found = sorted(others, key=lambda each: each.moment)
         found += self.lane.unanswered if self.lane else []
         in_play = tuple(lane.named for lane in self.lanes if lane.script and lane.named)
+        for lane in self.lanes:
+            if lane.script and lane.named:
+                self.cut_off.append(self._as_played(lane))
         return Death(says, tuple(found[-MOST_SENT:]), in_play)
 
     def run(self, cases: list[Named]) -> None:
@@ -194,10 +199,14 @@ class Trial:
                     number = packet.number + further
                     ending = packet.but(number=number, options=TERMINATED)
                     self._send(lane, place, ending.to_bytes())
-        played = Played(*lane.named, lane.universes, lane.begun, lane.done, lane.late)
+        played = self._as_played(lane)
         self.played.append(played)
         lane.script = None
         self._listen(lane, played)
+
+    def _as_played(self, lane: Lane) -> Played:
+        assert lane.named is not None
+        return Played(*lane.named, lane.universes, lane.begun, lane.done, lane.late)
 
     def _listen(self, lane: Lane, played: Played) -> None:
         """Leaves the cases of a lane that is deaf, or of all."""
