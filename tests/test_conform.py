@@ -276,7 +276,7 @@ class Tool(FolderTest):
     def test_words(self):
         """What is refused, and what cannot be tried, is told with status 2."""
         for words, telling in (
-            ((), "receiver|source|page"),
+            ((), "receiver|source|vectors|page"),
             (("receiver",), "name a peer"),
             (("receiver", "ola", "--command", "x"), "name a peer"),
             (("receiver", "nobody"), "nobody"),

@@ -14,7 +14,10 @@ from tooling import run_tool
 PAGES = {path.name: path for path in sorted((TOP / "man").iterdir())}
 TOOLS = ("conform", "convert", "desk", "osc", "picture", "premiere", "sheet", "storm", "watch")
 # Tools of several kinds, each with a help of its own.
-KINDS = {"conform": ("receiver", "source", "page"), "picture": ("night", "rehearsal", "storm")}
+KINDS = {
+    "conform": ("receiver", "source", "vectors", "page"),
+    "picture": ("night", "rehearsal", "storm"),
+}
 FORMATS = (TOP / "docs/FORMATS.md").read_text()
 PROFILE = (TOP / "docs/PROFILE.md").read_text()
 

@@ -12,7 +12,12 @@ from pathlib import Path
 
 from cueplayer_tools.conform.baseline import baseline_in, differences
 from cueplayer_tools.conform.capture import hear, open_listener
-from cueplayer_tools.conform.captured import write_captures, write_heard, write_text
+from cueplayer_tools.conform.captured import (
+    write_bytes,
+    write_captures,
+    write_heard,
+    write_text,
+)
 from cueplayer_tools.conform.command_words import chosen_words
 from cueplayer_tools.conform.diagnoses import diagnoses_of, kept
 from cueplayer_tools.conform.estimate import seconds_of
@@ -43,6 +48,7 @@ from cueplayer_tools.conform.sources import (
     player,
 )
 from cueplayer_tools.conform.streams import listening_of
+from cueplayer_tools.conform.vectors import vectors_capture, vectors_json
 from cueplayer_tools.conform.verdicts import Named
 from cueplayer_tools.program import run
 from cueplayer_tools.words import Refused, count_of, printable
@@ -180,6 +186,14 @@ def _tried(chosen: argparse.Namespace, words: list[str]) -> int:
     return BROKEN if result.is_broken else DIFFERS if differs else 0
 
 
+def _write_vectors(chosen: argparse.Namespace) -> int:
+    if chosen.json:
+        write_text(chosen.json, vectors_json(_ourselves()))
+    if chosen.pcap:
+        write_bytes(chosen.pcap, vectors_capture())
+    return 0
+
+
 def main(words: list[str]) -> int:
     """Runs the tool with these words, and answers its exit status."""
     chosen = chosen_words(words, __doc__)
@@ -188,6 +202,8 @@ def main(words: list[str]) -> int:
             results = [each for file in chosen.results for each in read_results(file)]
             print(page(results), end="")
             return 0
+        if chosen.kind == "vectors":
+            return _write_vectors(chosen)
         return _tried(chosen, words)
     except (Refused, PeerFault) as fault:
         print(f"conform: {fault}", file=sys.stderr)

@@ -82,7 +82,8 @@ def write_heard(name: str, came: list[Heard]) -> None:
 def write_bytes(name: str | Path, data: bytes) -> None:
     """Writes a file, in a folder that is made if need be; or Refused."""
     try:
-        Path(name).parent.mkdir(parents=True, exist_ok=True)
+        if not Path(name).parent.exists():
+            Path(name).parent.mkdir(parents=True)
         Path(name).write_bytes(data)
     except OSError as fault:
         raise Refused(f"{name}: {fault.strerror}") from fault

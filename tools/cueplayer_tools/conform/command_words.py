@@ -12,7 +12,7 @@ MOST_UNIVERSES = 100
 PEERS = ("cueplayer", "ola", "qlcplus")
 # How long a receiver that ended is waited for, in seconds.
 PATIENCE = 20.0
-KINDS = ("receiver", "source", "page")
+KINDS = ("receiver", "source", "vectors", "page")
 
 
 def address_word(word: str) -> tuple[str, int]:
@@ -118,6 +118,8 @@ def _check(parser: argparse.ArgumentParser, words: argparse.Namespace) -> None:
     told = ", ".join(PEERS)
     if words.kind == "receiver" and bool(words.peer) == bool(words.command):
         parser.error(f"receiver: name a peer ({told}), or a --command")
+    if words.kind == "vectors" and not (words.json or words.pcap):
+        parser.error("vectors: name a file, --json FILE or --pcap FILE")
     if words.kind == "source" and bool(words.peer) == bool(words.at or words.universes):
         parser.error(f"source: name a peer ({told}), or where to listen")
 
@@ -128,6 +130,9 @@ def chosen_words(words: list[str], about: str | None) -> argparse.Namespace:
     kinds = parser.add_subparsers(required=True, metavar="|".join(KINDS), dest="kind")
     _receiver_words(kinds)
     _source_words(kinds)
+    kind = kinds.add_parser("vectors", help="writes the cases for tests of your own")
+    kind.add_argument("--json", metavar="FILE", help="as JSON, with what is right after each")
+    kind.add_argument("--pcap", metavar="FILE", help="as pcapng")
     kind = kinds.add_parser("page", help="makes a page of results that --json printed")
     kind.add_argument("results", metavar="FILE", nargs="+")
     chosen = parser.parse_args(words)

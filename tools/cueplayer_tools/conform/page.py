@@ -37,16 +37,25 @@ def _table(results: list[Result]) -> Iterator[str]:
 
 
 def _remarks(result: Result) -> Iterator[str]:
-    """What the table has no room for: of what is broken, each case, and choices that differ."""
+    """What the table has no room for: of what is broken, each case, what was not tried, and choices
+    that differ."""
+    missing: dict[str, list[str]] = {}
     for rule in result.rules:
-        cases = [each for each in rule.cases if each.verdict in (BROKEN, NOT_TRIED)]
-        for case in cases:
-            about = "" if case.case == rule.rule else f", {case.case}"
-            yield f"- **{rule.rule}**{about}: {case.says}."
-        said = {each.says for each in rule.cases if each.verdict == CHOICE}
-        if len(said) > 1:
-            told = (f"{each.case}: {each.says}" for each in rule.cases if each.verdict == CHOICE)
+        for case in rule.cases:
+            about = rule.rule if case.case == rule.rule else f"{rule.rule}, {case.case}"
+            if case.verdict == BROKEN:
+                yield f"- **{about}**: {case.says}."
+            elif case.verdict == NOT_TRIED:
+                missing.setdefault(case.says, []).append(about)
+        chosen: dict[str, list[str]] = {}
+        for case in rule.cases:
+            if case.verdict == CHOICE:
+                chosen.setdefault(case.says, []).append(case.case)
+        if len(chosen) > 1:
+            told = (f"{', '.join(cases)}: {says}" for says, cases in chosen.items())
             yield f"- {rule.rule}: {'; '.join(told)}."
+    for says, cases in missing.items():
+        yield f"- not tried: {'; '.join(cases)}: {says}."
 
 
 def _results(results: list[Result]) -> str:
