@@ -321,8 +321,36 @@ class Words(StormTest):
         self.assertTrue(0 < few["wrong"] < many["wrong"])
         self.assertEqual([none["time"]] * 2, [few["time"], many["time"]])
         table = self.storm(*words).splitlines()
-        rates = [re.split("  +", line.strip())[0] for line in table]
-        self.assertEqual(["loss", "0 %", "10 %", "50 %"], rates)
+        rates = [re.split("  +", line.strip())[:3] for line in table]
+        self.assertEqual(["loss", "seeds", "time"], rates[0])
+        wanted = [[f"{rate} %", "2", "median"] for rate in (0, 10, 50)]
+        self.assertEqual(wanted, rates[2::3])
+        others = [row[0] for row in rates[1:] if row[0] not in ("0 %", "10 %", "50 %")]
+        self.assertEqual(["least", "most"] * 3, others)
+        alone = self.storm(*night, "--sweep", "10").splitlines()[1].split("  ")
+        self.assertIn("alone", [cell.strip() for cell in alone])
+
+    def test_spread(self):
+        """Of each number the least, the median and the most over the seeds are those of the storms
+        that each seed draws by itself."""
+        night = self.night(b"0 goto 2 in 5\n6000 goto 1 in 0\n")
+        words = (*night, "--loss", 30, "--delay", "0-40")
+        drawn = [self.data(*words, "--seed", seed) for seed in range(7, 12)]
+        wrong = sorted(sum(each["wrong"] for each in one["universes"]) for one in drawn)
+        longest = sorted(max(each["longest"] for each in one["universes"]) for one in drawn)
+        over = self.data(*words, "--seed", 7, "--nights", 5)
+        self.assertEqual(drawn[0]["universes"], over["universes"])
+        over = over["seeds"]
+        self.assertEqual((5, sum(wrong)), (over["seeds"], over["wrong"]))
+        for place, name in ((0, "least"), (2, "median"), (4, "most")):
+            found = over[name]
+            self.assertEqual((wrong[place], longest[place]), (found["wrong"], found["longest"]))
+        self.assertLess(wrong[0], wrong[4])
+        (rate,) = self.data(*words, "--seed", 7, "--nights", 5, "--sweep", 30)
+        self.assertEqual(over, rate)
+        table = self.storm(*words, "--seed", 7, "--nights", 5).splitlines()[-3:]
+        fronts = [re.split("  +", row.strip())[0] for row in table]
+        self.assertEqual(["least", "30 %", "most"], fronts)
 
     def test_record(self):
         """The ticks of a record are those of the night."""

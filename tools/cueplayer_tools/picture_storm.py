@@ -191,19 +191,21 @@ def _draw_rates(drawing: Drawing, chart: _Chart, rates: list[Rate], shares: list
         drawing.line(x, chart.bottom, x, chart.bottom + 4, "mark")
         drawing.text(x, chart.bottom + 17, percent(each.loss), "middle")
         drawing.text(x, y - 24, f"{part:.2g} %" if part else "never", "end")
-        told = f"longest {duration(each.longest)}" if part else ""
+        told = f"longest {duration(each.together.longest)}" if part else ""
         drawing.text(x, y - 10, told, "faint end")
     drawing.text((LEFT + RIGHT) / 2, chart.bottom + 34, "packets lost", "faint middle")
 
 
 def draw_sweep(title: str, rates: list[Rate], said: str) -> str:
     """The share of the time in which something was wrong, by the rate of loss, as a file."""
-    told = "; ".join(f"{percent(each.loss)}: {share(each.wrong, each.time)}" for each in rates)
+    nights = [each.together for each in rates]
+    parts = ((percent(each.loss), share(it.wrong, it.time)) for each, it in zip(rates, nights))
+    told = "; ".join(f"{loss}: {part}" for loss, part in parts)
     drawing = Drawing(title, f"Time in which a universe is other than meant, by loss. {told}.")
     drawing.text(LEFT, 24, title, "title")
     drawing.text(LEFT, 44, said, "faint")
-    shares = [100 * each.wrong / max(each.time, 1) for each in rates]
-    darks = [100 * each.dark / max(each.time, 1) for each in rates]
+    shares = [100 * each.wrong / max(each.time, 1) for each in nights]
+    darks = [100 * each.dark / max(each.time, 1) for each in nights]
     step = _scale(max(shares))
     lines = math.ceil(max(shares) / step) + 1
     chart = _Chart(len(rates), step * lines)
@@ -211,8 +213,8 @@ def draw_sweep(title: str, rates: list[Rate], said: str) -> str:
         y = chart.height(line * step)
         drawing.line(LEFT, y, RIGHT, y, "rule")
         drawing.text(LEFT - 6, y + 4, f"{line * step:g} %", "faint end")
-    for at, (name, parts) in enumerate((("wrong", shares), ("of it dark", darks))):
-        points = [(chart.across(each), chart.height(part)) for each, part in enumerate(parts)]
+    for at, (name, drawn) in enumerate((("wrong", shares), ("of it dark", darks))):
+        points = [(chart.across(each), chart.height(part)) for each, part in enumerate(drawn)]
         path = "L".join(f"{number(x)} {number(y)}" for x, y in points)
         drawing.add("path", d=f"M{path}", class_="curve", style=colour(at))
         y = points[-1][1] + (4 if at == 0 else 14)

@@ -28,7 +28,7 @@ from cueplayer_tools.storm_sweep import (
     Rate,
     Sweep,
     blown,
-    sweep_data,
+    rate_data,
     sweep_table,
     swept,
 )
@@ -156,7 +156,8 @@ def add_storm(parser: argparse.ArgumentParser) -> None:
     )  # fmt: skip
     parser.add_argument(
         "--nights", metavar="N", type=whole, default=1,
-        help="with --sweep, this many nights for each rate, each with the next seed",
+        help="this many nights, or for each rate of a sweep, each with the next seed; the median "
+        "of all, and their least and most",
     )  # fmt: skip
 
 
@@ -219,7 +220,8 @@ def sweep_of(
     words: argparse.Namespace, plan: Plan, keep: Keep | None = None
 ) -> tuple[list[Rate], list[Found]]:
     """What each rate of loss does, and the faults of the program that were found."""
-    sweep = Sweep(words.sweep, max(words.nights, 1))
+    losses = [words.loss] if words.sweep is None else words.sweep
+    sweep = Sweep(losses, max(words.nights, 1))
     return swept(plan, consoles_of(words), network_of(words, plan), sweep, keep)
 
 
@@ -237,14 +239,27 @@ def _run(words: argparse.Namespace) -> int:
     plan, keep = plan_of_words(words), _keeper(words.scripts)
     if words.sweep is not None:
         rates, faults = sweep_of(words, plan, keep)
-        told = json.dumps(sweep_data(rates)) + "\n" if words.json else sweep_table(rates)
+        told = json.dumps(list(map(rate_data, rates))) if words.json else sweep_table(rates)
     else:
-        storm = blown(plan, consoles_of(words), network_of(words, plan), keep)
-        faults = [(storm, fault) for fault in storm.faults]
-        name = Path(words.night).name
-        told = json.dumps(data(storm)) + "\n" if words.json else report(storm, name)
-    print(told, end="")
+        told, faults = _storm_told(words, plan, keep)
+    print(told, end="\n" if words.json else "")
     return _end(faults)
+
+
+def _storm_told(
+    words: argparse.Namespace, plan: Plan, keep: Keep | None
+) -> tuple[str, list[Found]]:
+    """The storm of the seed, and behind it those of all seeds if there are several."""
+    storm = blown(plan, consoles_of(words), network_of(words, plan), keep)
+    faults = [(storm, fault) for fault in storm.faults]
+    rates: list[Rate] = []
+    if words.nights > 1:
+        rates, faults = sweep_of(words, plan, keep)
+    if words.json:
+        seeds = {"seeds": rate_data(rates[0])} if rates else {}
+        return json.dumps({**data(storm), **seeds}), faults
+    told = report(storm, Path(words.night).name)
+    return told + (f"\n{sweep_table(rates)}" if rates else ""), faults
 
 
 def _parser() -> argparse.ArgumentParser:
