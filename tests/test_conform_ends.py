@@ -11,8 +11,9 @@ from small_receivers import BREAKING, DeafAfterSources, Small, StopsAtCutDatagra
 from tooling import run_tool
 
 from cueplayer_tools.conform.diagnoses import diagnoses_of
-from cueplayer_tools.conform.peers import PeerFault, SteppedClock
+from cueplayer_tools.conform.peers import NetworkFault, PeerFault, SteppedClock
 from cueplayer_tools.conform.rounds import Setting, try_all
+from cueplayer_tools.words import Refused
 
 CUT = ("cut datagrams", "in the header")
 # A datagram of so many bytes ends the receivers here: one of those that the case above sends.
@@ -74,6 +75,31 @@ class Ended(unittest.TestCase):
         (death,) = found.deaths
         self.assertIn(FATAL, [len(each.data) for each in death.sent])
         self.assertIn("does not come back: nobody is there", found.stopped)
+
+    def test_cannot_send(self):
+        """Where this machine cannot send any more, what was found is kept; at once, it is told."""
+
+        class CutOff(InMemory):
+            left = 0
+
+            def send(self, universe, data, sender):
+                self.left -= 1
+                if self.left < 0:
+                    raise NetworkFault("127.0.0.1:5568: Network is unreachable")
+                super().send(universe, data, sender)
+
+        clock = SteppedClock()
+
+        def start(left=12):
+            peer = CutOff(Small, clock, (1,))
+            peer.left = left
+            return peer
+
+        found = try_all(Setting(start, clock), rules_named("source stays", "preview"))
+        self.assertEqual({"kept", "not tried"}, {each.verdict for each in found.verdicts})
+        self.assertEqual([("stopped", "127.0.0.1:5568: Network is unreachable")], told_of(found))
+        with self.assertRaises(Refused):
+            try_all(Setting(lambda: start(0), clock), rules_named("preview"))
 
     def test_several_suspects(self):
         """Where two cases were in play, each is tried alone."""

@@ -83,7 +83,11 @@ def _tell_how_long(peer: Peer, cases: list[Named], tries: int, settle: int) -> N
     at_a_time = min(len(peer.universes), len(cases))
     count = count_of(len(cases), "case") + (" once more" if tries > 1 else "")
     told = f"{count}, {at_a_time} at a time, about {seconds_of(peer, cases, settle):.0f} s"
-    print(f"conform: {told}", file=sys.stderr)
+    _warn(told)
+
+
+def _warn(text: str) -> None:
+    print(f"conform: {text}", file=sys.stderr)
 
 
 def receiver_result(words: argparse.Namespace) -> Result:
@@ -109,7 +113,7 @@ def receiver_result(words: argparse.Namespace) -> Result:
     clock = SteppedClock() if words.peer == "cueplayer" else Clock()
     begun = time.time_ns()
     salt = f"{begun}/{os.getpid()}"
-    tried = try_all(Setting(start, clock, settle, salt, words.patience, tell), rules)
+    tried = try_all(Setting(start, clock, settle, salt, words.patience, tell, _warn), rules)
     peer, found = known[0], rules_found(tried.verdicts)
     if words.pcap:
         write_captures(words.pcap, tried.played + tried.cut_off, peer.route, begun // 1000)
@@ -206,7 +210,7 @@ def main(words: list[str]) -> int:
             return _write_vectors(chosen)
         return _tried(chosen, words)
     except (Refused, PeerFault) as fault:
-        print(f"conform: {fault}", file=sys.stderr)
-        return 2
+        _warn(str(fault))
+        return UNTRIED
     except KeyboardInterrupt:
         return 130

@@ -27,7 +27,8 @@ MOST_DEATHS = 5
 class Setting:
     """How a trial is begun: what starts the peer, the clock, how long a receiver may take to show
     what came, in milliseconds, what makes the CIDs of this trial its own, and for how many seconds
-    one that ended is waited for. `tells` is told what is played now, in how many universes."""
+    one that ended is waited for. `tells` is told which cases are played now, and how often
+    they were, and `warns` what else takes time."""
 
     start: Callable[[], Peer]
     clock: Clock
@@ -35,6 +36,7 @@ class Setting:
     salt: str = ""
     patience: float = 0
     tells: Callable[[Peer, list[Named], int], None] = lambda peer, cases, tries: None
+    warns: Callable[[str], None] = lambda text: None
 
 
 @dataclass
@@ -68,18 +70,22 @@ class Round:
 
     def _start(self) -> Peer | None:
         """The peer, begun anew; one that ended may take its time."""
-        until = time.monotonic() + self.setting.patience
+        patience = self.setting.patience
+        until, is_told = time.monotonic() + patience, False
         while True:
             try:
                 peer = self.setting.start()
                 self.tried.has_begun = True
                 return peer
-            except PeerFault as fault:
+            except (PeerFault, Refused) as fault:
                 if not self.tried.has_begun:
                     raise
                 if time.monotonic() >= until:
                     self.tried.stopped = f"it ended, and does not come back: {fault}"
                     return None
+                if not is_told:
+                    self.setting.warns(f"{fault}; waiting up to {patience:g} s for it")
+                    is_told = True
             time.sleep(0.5)
 
     def play(self, cases: list[Named], tries: int) -> None:
@@ -113,7 +119,7 @@ class Round:
     def _played(self, trial: Trial, cases: list[Named]) -> Death | None:
         try:
             death = trial.play(cases)
-        except NetworkFault as fault:
+        except (NetworkFault, Refused) as fault:
             if not self.tried.played and not trial.played:
                 raise Refused(str(fault)) from fault
             self.tried.stopped, death = str(fault), None
