@@ -2,17 +2,24 @@
 trial finds of them."""
 
 import contextlib
+import shutil
 import socket
+import subprocess
 import threading
 import time
 
-import small_receivers
+import small_nodes
 from tooling import wait_for
 
 from cueplayer_tools.conform.peers import PeerFault, SteppedClock
 from cueplayer_tools.conform.rounds import Setting, try_all
 from cueplayer_tools.conform.rules import RULES
 
+# What tshark tells of a frame.
+FIELDS = (
+    "frame.time_epoch", "eth.dst", "ip.src", "udp.srcport", "ip.dst", "udp.dstport",
+    "ip.checksum.status", "udp.checksum.status", "udp.payload", "frame.comment",
+)  # fmt: skip
 CASES = {rule.name: {case.name for case in rule.cases} for rule in RULES}
 
 
@@ -31,7 +38,7 @@ class InMemory:
 
     def begin(self, universes):
         """Receivers of these universes, which hear what comes for any of them."""
-        node = small_receivers.node(self.kind, universes)
+        node = small_nodes.node(self.kind, universes)
         self.receivers |= node
         self.groups |= dict.fromkeys(universes, node)
 
@@ -90,7 +97,7 @@ def write_shown(folder, universe, slots):
 
 def run_node(kind, universes, listener, folder, is_over):
     """Receives until it is over, or a receiver ends; then nothing is shown any more."""
-    receivers, shown = small_receivers.node(kind, universes), {}
+    receivers, shown = small_nodes.node(kind, universes), {}
     try:
         while not is_over.is_set():
             with contextlib.suppress(TimeoutError):
@@ -133,3 +140,15 @@ def serve(kind, universes, folder, comes_back=0.0):
         finally:
             is_over.set()
             server.join()
+
+
+def read_by_tshark(test, file):
+    """The fields of each frame of a capture."""
+    if not shutil.which("tshark"):
+        test.skipTest("tshark is not on PATH")
+    words = ["tshark", "-r", file, "-T", "fields", "-E", "separator=/t"]
+    words += ["-o", "ip.check_checksum:TRUE", "-o", "udp.check_checksum:TRUE"]
+    words += [word for field in FIELDS for word in ("-e", field)]
+    done = subprocess.run(words, capture_output=True, text=True, timeout=120)
+    test.assertEqual(0, done.returncode, done.stderr)
+    return [dict(zip(FIELDS, line.split("\t"))) for line in done.stdout.splitlines()]

@@ -11,6 +11,7 @@ import sys
 import time
 import unittest
 
+import small_nodes
 import small_receivers
 import small_sources
 from conforming import CASES, InMemory, broken_cases, choices, serve, verdicts
@@ -114,13 +115,13 @@ class Receivers(unittest.TestCase):
         """Each is caught by cases of the rule that it breaks, and by no other that it need not
         break; each case catches one."""
         catching = {name: set() for name in CASES}
-        for kind in small_receivers.BREAKING:
+        for kind in small_nodes.BREAKING:
             with self.subTest(kind.__name__):
                 caught = set(kind.caught) or CASES[kind.rule]
                 wanted = {kind.rule: caught, **kind.also}
                 self.assertEqual(wanted, broken_cases(verdicts(kind)))
                 catching[kind.rule] |= caught
-        self.assertGreaterEqual(len(small_receivers.BREAKING), 20)
+        self.assertGreaterEqual(len(small_nodes.BREAKING), 20)
         for rule in RULES:
             judged = {case.name for case in rule.cases if not case.is_open}
             if rule.name != "number of slots":
@@ -255,7 +256,7 @@ class Tool(FolderTest):
     def test_second_address(self):
         """A source that moves to another address of loopback."""
         with serve(small_receivers.KnowsSourcesByAddress, range(1, 3), self.folder) as words:
-            result = self.result("receiver", *words, "--rule", "CID")
+            result = self.result("receiver", *words, "--settle", 600, "--rule", "CID")
         found = {case["case"]: case["verdict"] for case in result["rules"][0]["cases"]}
         if "not tried" in found.values():
             self.skipTest("this machine is too busy")

@@ -7,7 +7,8 @@ from pathlib import Path
 
 from conforming import CASES, InMemory, broken_cases, rules_named, serve, tried
 from program import FolderTest
-from small_receivers import BREAKING, DeafAfterSources, Small, StopsAtCutDatagrams
+from small_nodes import BREAKING, DeafAfterSources
+from small_receivers import Small, StopsAtCutDatagrams
 from tooling import run_tool
 
 from cueplayer_tools.conform.diagnoses import diagnoses_of
@@ -200,7 +201,7 @@ class Tool(FolderTest):
         with serve(Dies, range(1, 2), self.folder, comes_back) as words:
             done = run_tool(
                 "conform", "receiver", *words, *rules, "--json", "--keep", kept,
-                "--patience", 30 if comes_back else 0,
+                "--settle", 600, "--patience", 30 if comes_back else 0,
             )  # fmt: skip
         self.assertEqual(1, done.returncode, done.stderr)
         return json.loads(done.stdout)
@@ -222,7 +223,7 @@ class Tool(FolderTest):
 
     def test_comes_back(self):
         """Then it is one packet, and the other rules are tried."""
-        result = self.node(0.3)
+        result = self.node(2.0)
         self.assertEqual([CUT[0]], [e["rule"] for e in result["rules"] if e["verdict"] == "broken"])
         (ended,) = result["diagnoses"]
         (packet,) = ended["packets"]

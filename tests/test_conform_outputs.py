@@ -2,13 +2,11 @@
 baseline; and how long it says that it takes."""
 
 import json
-import shutil
-import subprocess
 import unittest
 from xml.etree import ElementTree
 
 import small_receivers
-from conforming import InMemory, rules_named, serve, tried
+from conforming import InMemory, read_by_tshark, rules_named, serve, tried
 from program import FolderTest
 from small_receivers import Small
 from tooling import run_tool
@@ -25,23 +23,8 @@ from cueplayer_tools.conform.script import Datagram, Look
 from cueplayer_tools.conform.trial import REST, Trial
 from cueplayer_tools.words import Refused
 
-FIELDS = (
-    "frame.time_epoch", "eth.dst", "ip.src", "udp.srcport", "ip.dst", "udp.dstport",
-    "ip.checksum.status", "udp.checksum.status", "udp.payload", "frame.comment",
-)  # fmt: skip
+# Of a checksum, as tshark names it.
 GOOD = "1"
-
-
-def read_by_tshark(test, file):
-    """The fields of each frame of a capture."""
-    if not shutil.which("tshark"):
-        test.skipTest("tshark is not on PATH")
-    words = ["tshark", "-r", file, "-T", "fields", "-E", "separator=/t"]
-    words += ["-o", "ip.check_checksum:TRUE", "-o", "udp.check_checksum:TRUE"]
-    words += [word for field in FIELDS for word in ("-e", field)]
-    done = subprocess.run(words, capture_output=True, text=True, timeout=120)
-    test.assertEqual(0, done.returncode, done.stderr)
-    return [dict(zip(FIELDS, line.split("\t"))) for line in done.stdout.splitlines()]
 
 
 def result_of(kind, *names, **options):

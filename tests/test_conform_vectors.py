@@ -5,12 +5,11 @@ import json
 import os
 import unittest
 
-import small_receivers
-from conforming import CASES, InMemory
+import small_nodes
+from conforming import CASES, InMemory, read_by_tshark
 from expected.receiver import Receiver
 from program import CID, FolderTest, packet, slots_in
 from small_receivers import Small
-from test_conform_outputs import read_by_tshark
 from tooling import run_tool
 
 from cueplayer_tools.conform.vectors import APART, vectors_json
@@ -27,7 +26,7 @@ def broken_cases(kind):
     """The cases in which a small receiver shows at a look what no answer has."""
     found = {}
     for vector in VECTORS:
-        receivers = small_receivers.node(kind, vector["universes"])
+        receivers = small_nodes.node(kind, vector["universes"])
         left = vector["answers"]
         for place, step in enumerate(vector["steps"]):
             universe = step["universe"]
@@ -90,7 +89,7 @@ class Vectors(unittest.TestCase):
         """By the vectors alone each small receiver is found, and one that keeps to the rules
         breaks none."""
         self.assertEqual({}, broken_cases(Small))
-        for kind in small_receivers.BREAKING:
+        for kind in small_nodes.BREAKING:
             with self.subTest(kind.__name__):
                 caught = set(kind.caught) or CASES[kind.rule]
                 self.assertEqual({kind.rule: caught, **kind.also}, broken_cases(kind))

@@ -436,8 +436,11 @@ class Pages(StormTest):
         subprocess.run(["bash", "-c", commands], cwd=self.folder, check=True)
         files = [self.folder / name for name in ("lamps.asc", "still.play")]
         (rate,) = self.data(*files, "--sweep", 10, "--nights", 10)
-        row = re.search(r"(?m)^\| 10 %, one by one \|.*\| (\d+) times \| ([\d.]+) s \|$", page)
-        self.assertEqual((int(row[1]), float(row[2])), (rate["darks"], rate["longest"] / 1000))
+        times = r"(\d+) \((\d+) to (\d+)\) times"
+        row = re.search(rf"(?m)^\| 10 %, one by one \|.*\| {times} \| ([\d.]+) s \|$", page)
+        darks = [rate[name]["darks"] for name in ("median", "least", "most")]
+        self.assertEqual([int(each) for each in row.groups()[:3]], darks)
+        self.assertEqual(float(row[4]), rate["longest"] / 1000)
 
 
 class Pictures(StormTest):

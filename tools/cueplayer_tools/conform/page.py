@@ -36,26 +36,31 @@ def _table(results: list[Result]) -> Iterator[str]:
         yield " | ".join([f"| {rule.asks}", rule.clause, *cells]) + " |"
 
 
+def _by_text(rule: RuleFound, verdict: str) -> dict[str, str]:
+    """The cases of a rule that came to a verdict, by what there is to say of them."""
+    found: dict[str, list[str]] = {}
+    for case in rule.cases:
+        if case.verdict == verdict:
+            found.setdefault(case.says, []).append(case.case)
+    return {says: ", ".join(cases) for says, cases in found.items()}
+
+
 def _remarks(result: Result) -> Iterator[str]:
     """What the table has no room for: of what is broken, each case, what was not tried, and choices
     that differ."""
     missing: dict[str, list[str]] = {}
     for rule in result.rules:
-        for case in rule.cases:
-            about = rule.rule if case.case == rule.rule else f"{rule.rule}, {case.case}"
-            if case.verdict == BROKEN:
-                yield f"- **{about}**: {case.says}."
-            elif case.verdict == NOT_TRIED:
-                missing.setdefault(case.says, []).append(about)
-        chosen: dict[str, list[str]] = {}
-        for case in rule.cases:
-            if case.verdict == CHOICE:
-                chosen.setdefault(case.says, []).append(case.case)
+        for says, cases in _by_text(rule, BROKEN).items():
+            about = "" if cases == rule.rule else f", {cases}"
+            yield f"- **{rule.rule}**{about}: {says}."
+        for says, cases in _by_text(rule, NOT_TRIED).items():
+            missing.setdefault(says, []).append(f"{rule.rule}, {cases}")
+        chosen = _by_text(rule, CHOICE)
         if len(chosen) > 1:
-            told = (f"{', '.join(cases)}: {says}" for says, cases in chosen.items())
+            told = (f"{cases}: {says}" for says, cases in chosen.items())
             yield f"- {rule.rule}: {'; '.join(told)}."
-    for says, cases in missing.items():
-        yield f"- not tried: {'; '.join(cases)}: {says}."
+    for says, all_cases in missing.items():
+        yield f"- not tried: {'; '.join(all_cases)}: {says}."
 
 
 def _results(results: list[Result]) -> str:
