@@ -196,11 +196,12 @@ class Deaf(unittest.TestCase):
 class Tool(FolderTest):
     def node(self, comes_back):
         """What the tool says of a receiver over UDP that ends."""
-        kept = self.folder / "kept"
+        kept, self.capture = self.folder / "kept", self.folder / "sent.pcapng"
         rules = [word for name in CHOSEN[:2] for word in ("--rule", name)]
         with serve(Dies, range(1, 2), self.folder, comes_back) as words:
             done = run_tool(
                 "conform", "receiver", *words, *rules, "--json", "--keep", kept,
+                "--pcap", self.capture,
                 "--settle", 600, "--patience", 30 if comes_back else 0,
             )  # fmt: skip
         self.assertEqual(1, done.returncode, done.stderr)
@@ -209,7 +210,9 @@ class Tool(FolderTest):
     def assertFiles(self, packets):
         for each in packets:
             self.assertEqual(CUT, (each["rule"], each["case"]))
-            self.assertEqual(bytes.fromhex(each["hex"]), Path(each["file"]).read_bytes())
+            data = bytes.fromhex(each["hex"])
+            self.assertEqual(data, Path(each["file"]).read_bytes())
+            self.assertIn(data, self.capture.read_bytes())
 
     def test_stays_away(self):
         result = self.node(0)

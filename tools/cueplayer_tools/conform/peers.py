@@ -167,12 +167,15 @@ class CommandPeer:
         self.pair: Sequence[int] = universes[:2]
         self.route = sockets.route
         self.look(universes[0])
-        begun = time.monotonic()
-        self.look(universes[0])
-        self.look_time = time.monotonic() - begun
+        self.look_time = sorted(self._timed_look(universes[0]) for _ in range(3))[1]
         # While it looks at one universe, no datagram goes to another.
         at_a_time = int(LONGEST_LOOKS / self.look_time)
         self.universes = universes[: max(1, at_a_time)]
+
+    def _timed_look(self, universe: int) -> float:
+        begun = time.monotonic()
+        self.look(universe)
+        return time.monotonic() - begun
 
     def begin(self, universes: Sequence[int]) -> None:
         pass
