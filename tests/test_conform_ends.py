@@ -194,11 +194,11 @@ class Deaf(unittest.TestCase):
 
 
 class Tool(FolderTest):
-    def node(self, comes_back):
-        """What the tool says of a receiver over UDP that ends."""
+    def node(self, comes_back, universes=range(1, 2)):
+        """What the tool says of a receiver over UDP that ends, with status 1."""
         kept, self.capture = self.folder / "kept", self.folder / "sent.pcapng"
         rules = [word for name in CHOSEN[:2] for word in ("--rule", name)]
-        with serve(Dies, range(1, 2), self.folder, comes_back) as words:
+        with serve(Dies, universes, self.folder, comes_back) as words:
             done = run_tool(
                 "conform", "receiver", *words, *rules, "--json", "--keep", kept,
                 "--pcap", self.capture,
@@ -223,6 +223,15 @@ class Tool(FolderTest):
         self.assertEqual(("ended", "stopped"), (ended["what"], stopped["what"]))
         self.assertIn(FATAL, [len(each["hex"]) // 2 for each in ended["packets"]])
         self.assertFiles(ended["packets"])
+
+    def test_which_is_not_known(self):
+        """Where several cases were in play and it stays away, none is judged."""
+        result = self.node(0, range(1, 4))
+        self.assertEqual({"not tried"}, {each["verdict"] for each in result["rules"]})
+        self.assertEqual("ended", result["diagnoses"][0]["what"])
+        packets = result["diagnoses"][0]["packets"]
+        self.assertIn(CUT, [(each["rule"], each["case"]) for each in packets])
+        self.assertIn(FATAL, [len(each["hex"]) // 2 for each in packets])
 
     def test_comes_back(self):
         """Then it is one packet, and the other rules are tried."""

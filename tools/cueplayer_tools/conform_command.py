@@ -185,9 +185,9 @@ def _tried(chosen: argparse.Namespace, words: list[str]) -> int:
     else:
         print(table(result))
         print("".join(f"other than before: {each.line()}\n" for each in differs), end="")
-    if not result.is_tried:
-        return UNTRIED
-    return BROKEN if result.is_broken else DIFFERS if differs else 0
+    if result.is_broken:
+        return BROKEN
+    return UNTRIED if not result.is_tried else DIFFERS if differs else 0
 
 
 def _write_vectors(chosen: argparse.Namespace) -> int:
