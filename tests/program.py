@@ -20,6 +20,8 @@ TO_NOBODY = ("--to", "127.0.0.1:9", "--cid", CID)
 RUNTIME = tempfile.TemporaryDirectory(prefix="cueplayer-")
 os.environ["XDG_RUNTIME_DIR"] = RUNTIME.name
 os.environ["XDG_STATE_HOME"] = os.path.join(RUNTIME.name, "state")
+# Tests see what people see; `test_ordered_texts` has what programs see.
+os.environ["CUEPLAYER_REMARKS"] = "1"
 
 NO_PATCH = b"no dimmer is patched\n"
 UNFIT = b"words refused\n"
@@ -34,7 +36,7 @@ FAULT = re.compile(
 )
 
 # What `listen` tells before it waits, and `check` of a file that is no text.
-WAITING = (b"listening at ", b"this machine hears ", b"the show has no cue, ")
+WAITING = (b"listening at ", b"the show has no cue, ")
 
 # What `live` tells at its start: to what it sends, and by which card, in one line or more.
 START = re.compile(

@@ -80,7 +80,7 @@ IN_THE_PROGRAM = {
     "read_or_explain": "test_refused_growths.RefusedGrowths.test_words",
     "lock_path": "test_refused_growths.RefusedGrowths.test_live",
     "take_cid_lock": "test_refused_growths.RefusedGrowths.test_live",
-    "check_targets": "test_refused_growths.RefusedGrowths.test_targets",
+    "check_fit": "test_refused_growths.RefusedGrowths.test_targets",
     "name_on": "test_refused_growths.RefusedGrowths.test_live",
     "process_in_list": "test_refused_growths.RefusedGrowths.test_record_in_use",
     "check_show": "test_refused_growths.RefusedGrowths.test_check",

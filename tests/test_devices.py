@@ -236,18 +236,6 @@ class Outputs(ProgramTest):
         self.assertEqual((5, DEVICE_FAULT), (done.returncode, messages_in(done.stderr)))
         self.assertEqual(b"", done.stdout)
 
-    def test_closed_error_of_play(self):
-        """The status tells it, and what is opened does not take its place."""
-        *_, (words, stdin) = self.jobs()
-        done = subprocess.run(
-            [PROGRAM, *words],
-            input=stdin,
-            capture_output=True,
-            timeout=60,
-            preexec_fn=lambda: os.close(2),
-        )
-        self.assertEqual((5, b"", b""), (done.returncode, done.stdout, done.stderr))
-
     def test_status_where_nothing_can_be_told(self):
         """Where the text on standard error can't be written the status still tells."""
         for status, words, show in (

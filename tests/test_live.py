@@ -550,32 +550,20 @@ class Lock(LiveTest):
         self.assertEqual((0, b""), (self.end_night(first).status, b""))
 
     def test_play(self):
-        """`play` holds it too, and does not begin beside another; one after the other, both
-        play."""
-        words = ["play", self.show, "--to", self.to, "--cid", CID]
-        first = self.begin_night()
-        self.type_line(first, b"back\n", "refused AtStart")
-        with receiver_socket() as other:
-            words_elsewhere = ["play", self.show, "--to", address_of(other), "--cid", CID]
-            second = subprocess.run(
-                [PROGRAM, *words_elsewhere], input=b"0 tick\n", capture_output=True, timeout=30
-            )
-            self.assertEqual(5, second.returncode)
-            self.assertIn(b"another console on this machine sends under this CID", second.stderr)
-            self.assertEqual([], datagrams_at(other))
-        self.assertEqual(0, self.end_night(first).status)
-        playing = subprocess.Popen(
-            [PROGRAM, *words], stdin=subprocess.PIPE, stdout=subprocess.PIPE
-        )
-        self.addCleanup(playing.kill)
-        playing.stdin.write(b"0 tick\n")
-        playing.stdin.flush()
-        self.assertTrue(playing.stdout.readline())
-        self.assertEqual(5, run(*self.words(), stdin=b"").status)
-        playing.communicate(timeout=30)
-        self.assertEqual(0, playing.returncode)
-        for _ in range(2):
-            self.assertEqual(0, run(*words, stdin=b"0 tick\n").status)
+        """`play` takes none: it plays beside a night, and a night begins beside it."""
+        words = [PROGRAM, "play", self.show, "--to", self.to, "--cid", CID]
+        pipe = subprocess.PIPE
+        with subprocess.Popen(words, stdin=pipe, stdout=pipe, stderr=pipe) as playing:
+            self.addCleanup(playing.kill)
+            playing.stdin.write(b"0 tick\n")
+            playing.stdin.flush()
+            self.assertEqual(b"0 live 1:s0\n", playing.stdout.readline())
+            night = self.begin_night()
+            self.type_line(night, b"back\n", "refused AtStart")
+            out, err = playing.communicate(b"25 tick\n", timeout=30)
+            self.assertEqual((0, b"25 live 1:s1\n", b""), (playing.returncode, out, err))
+            self.assertEqual(0, run(*words[1:], stdin=b"0 tick\n").status)
+            self.assertEqual((0, b""), (self.end_night(night).status, b""))
 
     def test_console_that_died(self):
         """The lock is free at once, also where the one that held it was killed."""

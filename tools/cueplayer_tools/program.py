@@ -9,6 +9,9 @@ from pathlib import Path
 TOP = Path(__file__).resolve().parents[2]
 SCRIPT = TOP / "cueplayer"
 
+# What is started here tells its remarks: these tools read them, and hand them on to people.
+os.environ["CUEPLAYER_REMARKS"] = "1"
+
 
 def program() -> str:
     """The program to run. The script gives the record of a night a writer of its own."""

@@ -4,29 +4,30 @@ ghost use Rattle.cmd_words.specs.Job.{IsJobInRange};
 use crate::line_night::play_lines;
 use crate::live_job::{LiveWords, MainWords, play_live};
 use crate::reading::{file_text, script_text, show_text};
+use crate::standard::HeldStandard;
 use cmd_faults::RunFault;
 use cmd_words::{Job, Name};
 use fade::StepFader;
-use remarks::{Failure, JobFault};
+use remarks::{Failure, JobFault, Remark};
 use show_jobs::{CueLook, CueSlots, check_show, explain_show, list_cues, look_at, show_slots};
-use std::io::{BufWriter, Stderr, Stdout};
+use std::io::{BufWriter, Stdout};
 use stream_jobs::{ListenPlace, listen_at, rehearse_show, watch_lines};
 use system_devices::{ReceivingSocket, SocketFault, SystemInput, SystemOutput};
 
 // Bytes that a rehearsal gathers before it writes them.
 const PRINTED: usize = 65_536;
 
-/// Runs what the words ask for.
-pub fn run(rt: &HostRuntime, job: Job) -> Result<(), JobFault>
+/// Runs what the words ask for, and answers a remark on what was found.
+pub fn run(rt: &HostRuntime, job: Job, has_remarks: bool) -> Result<Remark, JobFault>
     requires { IsJobInRange job }
 {
     match job {
-        Job::Check { show, is_strict } => check_file(rt, show.as_str(), is_strict),
-        Job::Look { show, cue, cid } => Ok(look_at_file(rt, show.as_str(), cue, cid)?),
-        Job::Explain { show } => Ok(explain_file(rt, show.as_str())?),
-        Job::Cues { show, is_json } => Ok(list_file(rt, show.as_str(), is_json)?),
-        Job::Slots { show, cue, base } => Ok(show_file(rt, show.as_str(), cue, base)?),
-        Job::Play(night) => play_lines(rt, &night),
+        Job::Check { show, is_strict } => return check_file(rt, show.as_str(), is_strict),
+        Job::Look { show, cue, cid } => return Ok(look_at_file(rt, show.as_str(), cue, cid)?),
+        Job::Slots { show, cue, base } => return Ok(show_file(rt, show.as_str(), cue, base)?),
+        Job::Play(night) => return play_lines(rt, &night),
+        Job::Explain { show } => explain_file(rt, show.as_str())?,
+        Job::Cues { show, is_json } => list_file(rt, show.as_str(), is_json)?,
         Job::Live {
             night,
             record_file,
@@ -48,16 +49,17 @@ pub fn run(rt: &HostRuntime, job: Job) -> Result<(), JobFault>
                 }),
                 ends_with_input,
             };
-            play_live(rt, night, words)
+            play_live(rt, night, words)?
         }
-        Job::Rehearse { show, script } => Ok(rehearse(rt, show.as_str(), script.as_str())?),
+        Job::Rehearse { show, script } => rehearse(rt, show.as_str(), script.as_str())?,
         Job::Listen {
             at,
             universe,
             count,
-        } => Ok(listen(rt, at, universe, count)?),
-        Job::Watch { universes } => Ok(watch(rt, universes.as_slice())?),
+        } => listen(rt, at, universe, count, has_remarks)?,
+        Job::Watch { universes } => watch(rt, universes.as_slice())?,
     }
+    Ok(Remark::new())
 }
 
 /// A socket is not had.
@@ -70,15 +72,9 @@ pub fn output(rt: &HostRuntime) -> SystemOutput<Stdout> {
     SystemOutput::new(rt.stdout())
 }
 
-/// Standard error.
-pub fn messages(rt: &HostRuntime) -> SystemOutput<Stderr> {
-    SystemOutput::new(rt.stderr())
-}
-
-fn check_file(rt: &HostRuntime, show: &str, is_strict: bool) -> Result<(), JobFault> {
+fn check_file(rt: &HostRuntime, show: &str, is_strict: bool) -> Result<Remark, JobFault> {
     let text = show_text(rt, show)?;
-    let (mut out, mut err) = (output(rt), messages(rt));
-    check_show(rt.alloc(), text.as_slice(), is_strict, &mut out, &mut err)
+    check_show(rt.alloc(), text.as_slice(), is_strict, &mut output(rt))
 }
 
 fn explain_file(rt: &HostRuntime, show: &str) -> Result<(), Failure> {
@@ -91,23 +87,30 @@ fn list_file(rt: &HostRuntime, show: &str, is_json: bool) -> Result<(), Failure>
     list_cues(rt.alloc(), text.as_slice(), is_json, &mut output(rt))
 }
 
-fn look_at_file(rt: &HostRuntime, show: &str, cue: u32, cid: [u8; 16]) -> Result<(), Failure> {
+fn look_at_file(rt: &HostRuntime, show: &str, cue: u32, cid: [u8; 16]) -> Result<Remark, Failure> {
     let text = show_text(rt, show)?;
     let show = text.as_slice();
     let look = CueLook { show, cue, cid };
-    look_at(rt.alloc(), look, &mut output(rt), &mut messages(rt))
+    look_at(rt.alloc(), look, &mut output(rt))
 }
 
-fn show_file(rt: &HostRuntime, show: &str, cue: u32, base: u16) -> Result<(), Failure> {
+fn show_file(rt: &HostRuntime, show: &str, cue: u32, base: u16) -> Result<Remark, Failure> {
     let text = show_text(rt, show)?;
     let show = text.as_slice();
     let slots = CueSlots { show, cue, base };
-    show_slots(rt.alloc(), slots, &mut output(rt), &mut messages(rt))
+    show_slots(rt.alloc(), slots, &mut output(rt))
 }
 
-fn listen(rt: &HostRuntime, at: ([u8; 4], u16), universe: u16, count: u32) -> Result<(), Failure>
+fn listen(
+    rt: &HostRuntime,
+    at: ([u8; 4], u16),
+    universe: u16,
+    count: u32,
+    has_remarks: bool,
+) -> Result<(), Failure>
     requires { (1 ≤ universe) × (universe ≤ 63999) }
 {
+    let _held = HeldStandard::open(rt)?;
     let mut source = ReceivingSocket::bind(rt, at).map_err(of_socket_fault)?;
     let address = source.address();
     let host = at.0;
@@ -117,7 +120,8 @@ fn listen(rt: &HostRuntime, at: ([u8; 4], u16), universe: u16, count: u32) -> Re
         universe,
         count,
     };
-    listen_at(&mut source, place, &mut output(rt), &mut messages(rt))
+    let mut err = SystemOutput::new(rt.stderr());
+    listen_at(&mut source, place, has_remarks, &mut output(rt), &mut err)
 }
 
 // Watches universes by the lines of standard input.

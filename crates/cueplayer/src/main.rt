@@ -16,6 +16,7 @@ mod network_lines;
 mod opening;
 mod own_record;
 mod reading;
+mod remarked;
 mod screen;
 mod standard;
 mod start_lines;
@@ -24,13 +25,14 @@ mod words;
 
 use cmd_words::{Unread, WordsFault, read_or_explain, read_words};
 use jobs::run;
+use remarked::has_remarks;
 use remarks::{JobEnd, JobFault, Remark};
 use std::env;
 use std::process::ExitCode;
 use system_devices::{SystemOutput, remove_unused_record};
 use words::UserWords;
 
-fn end_of_words(rt: &HostRuntime) -> JobEnd {
+fn end_of_words(rt: &HostRuntime, has_remarks: bool) -> JobEnd {
     let words = match env::args(&(UserWords::new(rt), rt.alloc())) {
         Ok(words) => words,
         Err(error) => return JobEnd::of_unread(error.kind()),
@@ -39,7 +41,7 @@ fn end_of_words(rt: &HostRuntime) -> JobEnd {
         return JobEnd::of_memory();
     };
     match read_words(rt.alloc(), words.as_slice()) {
-        Ok(job) => JobEnd::of_job(run(rt, job)),
+        Ok(job) => JobEnd::of_job(run(rt, job, has_remarks)),
         Err(fault) => {
             remove_unused_record(rt, None);
             end_of_fault(rt, fault, words.as_slice())
@@ -62,6 +64,7 @@ fn end_of_fault(rt: &HostRuntime, fault: WordsFault, words: &[String]) -> JobEnd
 }
 
 fn main(rt: HostRuntime) -> ExitCode {
-    let end = end_of_words(&rt);
-    ExitCode::from(end.tell(&mut SystemOutput::new(rt.stderr())))
+    let has_remarks = has_remarks(&rt);
+    let end = end_of_words(&rt, has_remarks);
+    ExitCode::from(end.tell(has_remarks, &mut SystemOutput::new(rt.stderr())))
 }

@@ -39,7 +39,7 @@ pub fn file_text(rt: &HostRuntime, name: &str) -> Result<Vec<u8>, Failure>
     night_opening::file_text(&mut SystemTexts { rt }, name)
 }
 
-/// The first bytes of the show of a night, whose targets suit it.
+/// The first bytes of the show of a night, which can be played as the night asks.
 ///
 /// # Errors
 ///

@@ -2,6 +2,7 @@ ghost use Rattle.std.specs.Prelude.{[]};
 
 use night_opening::{StandardStream, StandardStreams, ask_for_screen};
 use remarks::{Failure, of_missing};
+use std::fs::{File, OpenOptions};
 use std::io::ErrorKind;
 use std::os::fd::AsFd;
 use system_devices::{Messages, TypedInput, open_messages};
@@ -26,16 +27,6 @@ impl<'a> Standard<'a> {
     }
 }
 
-/// Standard input, output and error have to be open. They are asked for before anything is opened,
-/// which would get the descriptor of what is closed.
-///
-/// # Errors
-///
-/// `Device` where one is closed.
-pub fn ask_for_standard(rt: &HostRuntime) -> Result<(), Failure> {
-    night_opening::ask_for_standard(&mut Descriptors { rt })
-}
-
 // The descriptors of this process. They do not tell.
 #[derive(Drop)]
 struct Descriptors<'a> {
@@ -49,7 +40,6 @@ impl StandardStreams for Descriptors<'_> {
 
     fn ask(&mut self, stream: StandardStream) -> Result<(), ErrorKind> {
         match stream {
-            StandardStream::Input => ask_for(&self.rt.stdin()),
             StandardStream::Output => ask_for(&self.rt.stdout()),
             StandardStream::Error => ask_for(&self.rt.stderr()),
         }
@@ -60,4 +50,41 @@ fn ask_for<F: AsFd>(file: &F) -> Result<(), ErrorKind> {
     let copied = file.as_fd().try_clone_to_owned();
     copied.map_err(|error| error.kind())?;
     Ok(())
+}
+
+const NOWHERE: &str = "/dev/null";
+
+/// Files in the place of standard input, output and error where these are closed, so that no socket
+/// gets their descriptors. Nothing is read of such an input, and nothing written to such an output.
+#[derive(Drop)]
+pub struct HeldStandard {
+    _input: Option<File>,
+    _output: Option<File>,
+    _error: Option<File>,
+}
+
+impl HeldStandard {
+    /// # Errors
+    ///
+    /// `Device` where one is closed, and nothing can be opened in its place.
+    pub fn open(rt: &HostRuntime) -> Result<Self, Failure> {
+        // A file gets the lowest descriptor that is free: these are in the order of theirs.
+        Ok(HeldStandard {
+            _input: hold(rt, &rt.stdin(), true)?,
+            _output: hold(rt, &rt.stdout(), false)?,
+            _error: hold(rt, &rt.stderr(), false)?,
+        })
+    }
+}
+
+// An input is held by a file that is only written, and an output by one that is only read.
+fn hold<F: AsFd>(rt: &HostRuntime, stream: &F, is_input: bool) -> Result<Option<File>, Failure> {
+    if ask_for(stream).is_ok() {
+        return Ok(None);
+    }
+    let mut way = OpenOptions::new();
+    match way.read(!is_input).write(is_input).open(rt, NOWHERE) {
+        Ok(file) => Ok(Some(file)),
+        Err(error) => Err(Failure::of_device(NOWHERE, error.kind())),
+    }
 }

@@ -14,14 +14,14 @@ use Rattle.show_reader.specs.Text.{statements_of}
 use Rattle.show_reader.proofs.OneShow.{of_its_show}
 use Rattle.night_opening.specs.Fits.{IsFit, SuitsNumbers, have_numbers, numbers_of, universes}
 
-pub no_number : (base : ℕ) (xs : List ℕ) (i : ℕ) → i < length xs → 65535 < base + get_or xs i 0
+pub no_number : (base : ℕ) (xs : List ℕ) (i : ℕ) → i < length xs → 63999 < base + get_or xs i 0
     → have_numbers (universes base xs) ≡ false
 no_number base [] i within over = absurd (omega (arith, within))
 no_number base (x ∷ xs) zero within over =
-    let e : nat_le (base + x) 65535 ≡ false = grind (arith, nat_tests, over) in rw e refl
+    let e : nat_le (base + x) 63999 ≡ false = grind (arith, nat_tests, over) in rw e refl
 no_number base (x ∷ xs) (suc i) within over =
     let later = no_number base xs i (omega (arith, within)) over in
-    rw later (and-false (nat_le (base + x) 65535))
+    rw later (and-false (nat_le (base + x) 63999))
 
 -- what the targets are to the show that was read they are to each that the text means
 pub fits : (night : Night) (show : List ℕ) (s : Tables) (result : Result Unit JobFault)

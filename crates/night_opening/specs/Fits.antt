@@ -1,4 +1,4 @@
--- Whether the targets of a night suit the universes of its show.
+-- Whether a show can be played as a night asks: at its base, and to its targets.
 use Rattle.std.specs.Prelude.{◌≡◌, ◌⊎◌, ◌+◌, ℕ, Bool, List, Option, Some, None, Result}
 use Rattle.std.specs.Prelude.{Ok, Err, if◌then◌else◌, map, nat_le}
 use Rattle.std.specs.List.{list_all}
@@ -23,9 +23,9 @@ use Rattle.night_opening.specs.Faults.{IsOfRun}
 abbrev pub universes : ℕ → List ℕ → List ℕ
 universes base ordinals = map (λ ordinal. base + ordinal) ordinals
 
--- each is a number of 16 bits
+-- each is the number of a universe; a base is at least 1
 abbrev pub have_numbers : List ℕ → Bool
-have_numbers numbers = list_all (λ number. nat_le number 65535) numbers
+have_numbers numbers = list_all (λ number. nat_le number 63999) numbers
 
 -- these universes, where each has a number
 abbrev pub numbers_of : List ℕ → Option (List ℕ)
@@ -56,6 +56,7 @@ FitsItsShow night show result =
     OfItsShow show (λ s. SuitsNumbers night.targets
     (numbers_of (universes night.base (patch_ordinals s.patch))) show result)
 
+-- the show is read first, then its universes get their numbers, and then the targets are looked at
 abbrev pub IsFit : Night → List ℕ → Result Unit JobFault → Type 0
 IsFit night show (Ok done) = FitsItsShow night show (Ok done)
 IsFit night show (Err fault) = IsUnread show fault ⊎ FitsItsShow night show (Err fault)

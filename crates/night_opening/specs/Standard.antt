@@ -2,12 +2,11 @@
 use Rattle.std.specs.Prelude.{ℕ, List, [], ◌∷◌, codes, Option, Some, None, Result, Ok, Err}
 use Rattle.std.specs.declared.io.ErrorKind.{ErrorKind}
 use Rattle.night_opening.specs.declared.standard.StandardStream.{StandardStream}
-use Rattle.night_opening.specs.declared.standard.StandardStream.TheVariants.{Input, Output, Error}
+use Rattle.night_opening.specs.declared.standard.StandardStream.TheVariants.{Output, Error}
 use Rattle.night_opening.specs.declared.standard.StreamStep.{StreamStep}
 use Rattle.night_opening.specs.declared.memory.streams.ClosedStreams.{ClosedStreams}
 
 abbrev pub stream_name : StandardStream → List ℕ
-stream_name Input = codes "standard input"
 stream_name Output = codes "standard output"
 stream_name Error = codes "standard error"
 
@@ -26,14 +25,7 @@ abbrev pub closing_reason : Result Unit ErrorKind → Option ErrorKind
 closing_reason (Ok done) = None
 closing_reason (Err kind) = Some kind
 
--- input, output and error in this order, until one is closed
-abbrev pub asked_until : StandardStream → ErrorKind → List StreamStep
-asked_until Input kind = closed_stream Input kind ∷ []
-asked_until Output kind = open_stream Input ∷ closed_stream Output kind ∷ []
-asked_until Error kind = open_stream Input ∷ open_stream Output ∷ closed_stream Error kind ∷ []
-
 -- of streams over memory, why one is closed, if it is
 abbrev pub closed_in : ClosedStreams → StandardStream → Option ErrorKind
-closed_in streams Input = streams.input
 closed_in streams Output = streams.output
 closed_in streams Error = streams.error

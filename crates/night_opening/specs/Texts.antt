@@ -1,11 +1,10 @@
 -- How much of a show or a script is read, and what is told where it cannot be.
-use Rattle.std.specs.Prelude.{◌≡◌, ℕ, List, [], codes, is_some, false, bytes_eq}
+use Rattle.std.specs.Prelude.{◌≡◌, ℕ, List, [], codes, bytes_eq}
 use Rattle.std.specs.Prelude.{Option, Some, None, Result, Ok, Err, Vec, if◌then◌else◌}
 use Rattle.byte_reading.specs.declared.reading.Unread.{Unread}
 use Rattle.byte_reading.specs.declared.reading.Unread.TheVariants.{Device, Memory}
 use Rattle.cmd_faults.specs.declared.fault.RunFault.TheVariants as run
 use Rattle.cmd_words.specs.declared.job.Night.{Night}
-use Rattle.night_lines.specs.Targets.{sole_target}
 use Rattle.remarks.specs.Failures.{Fails}
 use Rattle.remarks.specs.Remarks.{of_device}
 use Rattle.remarks.specs.declared.failure.Failure.{Failure}
@@ -47,17 +46,10 @@ IsReadText name (Ok bytes) (Ok text) = text ≡ bytes
 IsReadText name (Err reason) (Err failure) = IsUnreadInput name reason failure
 IsReadText name _ _ = ⊥
 
--- a show that was read suits the targets of a night, or why not
-abbrev pub SuitsNight : Night → List ℕ → Result Unit JobFault → Type 0
-SuitsNight night show (Ok done) =
-    is_some (sole_target night.targets) ≡ false → IsFit night show (Ok done)
-SuitsNight night show (Err fault) =
-    (is_some (sole_target night.targets) ≡ false) × IsFit night show (Err fault)
-
--- the show of a night that was read, and suits it; or why there is none
+-- the show of a night that was read, and can be played as the night asks; or why there is none
 abbrev pub IsSuitable : Night → Result (List ℕ) Unread → Result (List ℕ) JobFault → Type 0
-IsSuitable night answer (Ok text) = (answer ≡ Ok text) × SuitsNight night text (Ok tt)
-IsSuitable night (Ok show) (Err fault) = SuitsNight night show (Err fault)
+IsSuitable night answer (Ok text) = (answer ≡ Ok text) × IsFit night text (Ok tt)
+IsSuitable night (Ok show) (Err fault) = IsFit night show (Err fault)
 IsSuitable night (Err reason) (Err (job.Run failure)) =
     IsUnreadInput night.show reason failure
 IsSuitable night (Err reason) (Err _) = ⊥

@@ -1,5 +1,4 @@
-ghost use Rattle.std.specs.Prelude.{◌≡◌, Ok, false, is_some, option_map, true};
-ghost use Rattle.night_lines.specs.Targets.{sole_target};
+ghost use Rattle.std.specs.Prelude.{◌≡◌, option_map};
 ghost use Rattle.night_opening.specs.Fits as spec;
 ghost use Rattle.night_opening.specs.Fits.{IsFit, SuitsNumbers, SuitsTargets, numbers_of};
 
@@ -7,27 +6,21 @@ use crate::run_fault::run_fault;
 use arrayvec::ArrayVec;
 use cmd_faults::RunFault;
 use cmd_words::Night;
-use night_lines::sole_target;
 use remarks::{JobFault, of_target};
 use show_reader::read_show;
 use std::alloc::Global;
 use targets::Targets;
 
-/// Refuses targets that do not suit the universes of the show of a text. One target for all
-/// universes suits each show, so nothing is read then.
+/// Refuses a text that is no show, a base that leaves a universe of the show without a number, and
+/// targets that do not suit these universes, in this order.
 ///
 /// # Errors
 ///
-/// `Words` where a target does not suit; `Run` where the show is refused, a universe has no number,
-/// or an allocation failed.
-pub fn check_targets(alloc: Global, night: &Night, text: &[u8]) -> Result<(), JobFault>
-    ensures sole { is_some (sole_target night.now.targets) ≡ true → result ≡ Ok tt }
-    ensures each { is_some (sole_target night.now.targets) ≡ false
-        → IsFit night.now text.now result }
+/// `Run` where the show is refused, a universe has no number, or an allocation failed; `Words`
+/// where a target does not suit.
+pub fn check_fit(alloc: Global, night: &Night, text: &[u8]) -> Result<(), JobFault>
+    ensures { IsFit night.now text.now result }
 {
-    if sole_target(&night.targets).is_some() {
-        return Ok(());
-    }
     match read_show(alloc, text) {
         Ok(loaded) => check_universes(night, &loaded.show.universes(), text),
         Err(fault) => Err(run_fault(fault.into(), text)),
@@ -61,7 +54,7 @@ fn universes(base: u16, ordinals: &ArrayVec<u16, 16>) -> Option<ArrayVec<u16, 16
     let mut universes = ArrayVec::new();
     for ordinal in ordinals.as_slice() {
         let universe = u32::from(base) + u32::from(*ordinal);
-        if universe > 65_535 {
+        if universe > 63_999 {
             return None;
         }
         universes.push(universe as u16);

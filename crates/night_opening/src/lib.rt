@@ -1,11 +1,10 @@
 //! Whether a live night may open, how, and what it tells at its start.
 //!
-//! [`check_targets`] refuses targets that do not suit the universes of its show, and
-//! [`ask_for_screen`] asks for the streams that it tells to. [`live_name`] is the name by which it
-//! sends where none was given, [`head_of`] the head of its record, [`opening_of`] how it begins or
-//! goes on by what stands there, [`open_night`] the night that has begun, or gone on behind the
-//! lines of its record, and [`begin_record`] what its file keeps and gets. [`tell_night_start`]
-//! tells how it begins.
+//! [`check_fit`] refuses a show that cannot be played as the night asks, and [`ask_for_screen`] asks
+//! for the streams that it tells to. [`live_name`] is the name by which it sends where none was
+//! given, [`head_of`] the head of its record, [`opening_of`] how it begins or goes on by what stands
+//! there, [`open_night`] the night that has begun, or gone on behind the lines of its record, and
+//! [`begin_record`] what its file keeps and gets. [`tell_night_start`] tells how it begins.
 #![tactic(auto)]
 
 mod fit;
@@ -26,7 +25,7 @@ mod run_fault;
 mod standard;
 mod text;
 
-pub use fit::check_targets;
+pub use fit::check_fit;
 pub use head::{ClockText, head_of};
 pub use interrupts::is_interruptible;
 pub use led_line::led_refusal_line;
@@ -39,5 +38,5 @@ pub use playbill::{LiveWords, MainWords, Playbill};
 pub use record_start::{RecordStart, begin_record, counted_pause};
 pub use recording::{new_recording, place_of, recording_of};
 pub use refused_card::{of_refused_card, of_refused_route};
-pub use standard::{StandardStream, StandardStreams, StreamStep, ask_for_screen, ask_for_standard};
+pub use standard::{StandardStream, StandardStreams, StreamStep, ask_for_screen};
 pub use text::{TextSource, file_text, first_text, show_text, suitable_show};

@@ -3,7 +3,7 @@ ghost use Rattle.std.specs.declared.io.ErrorKind.{ErrorKind as KindOf};
 ghost use Rattle.cmd_faults.specs.declared.fault.RunFault.TheVariants as run;
 ghost use Rattle.remarks.specs.Failures.{Fails};
 ghost use Rattle.remarks.specs.Remarks.{of_device};
-ghost use Rattle.night_opening.specs.Standard.{asked_until, closed_stream, open_stream};
+ghost use Rattle.night_opening.specs.Standard.{closed_stream, open_stream};
 ghost use Rattle.night_opening.specs.Standard.{closing_reason, stream_name, stream_step};
 ghost use Rattle.night_opening.specs.declared.standard.StandardStream.TheVariants as stream;
 ghost use Rattle.night_opening.specs.declared.standard.StreamStep.{StreamStep as StepOf};
@@ -14,7 +14,6 @@ use std::io::ErrorKind;
 /// A stream that a program is started with.
 #[derive(Clone, Copy, Debug, PartialEq, Eq)]
 pub enum StandardStream {
-    Input,
     Output,
     Error,
 }
@@ -45,25 +44,6 @@ pub trait StandardStreams {
         ensures told { tells self.new → tells self.old }
         ensures step { tells self.new
             → steps self.new ≡ steps self.old ++ stream_step stream (closing_reason result) ∷ [] };
-}
-
-/// Asks for standard input, output and error, in this order: all have to be open.
-///
-/// # Errors
-///
-/// `Device` at the first that is closed; none behind it is asked for.
-pub fn ask_for_standard<S: StandardStreams>(streams: &mut S) -> Result<(), Failure>
-    ensures told { S.tells streams.new → S.tells streams.old }
-    ensures ok { OnOk result (S.tells streams.new → S.steps streams.new ≡ S.steps streams.old
-        ++ open_stream stream.Input ∷ open_stream stream.Output ∷ open_stream stream.Error ∷ []) }
-    ensures closed { IfErr result (λ failure. (which : StandardStream) × (kind : KindOf)
-        × Fails run.Device (of_device (stream_name which) kind) failure
-        × (S.tells streams.new
-        → S.steps streams.new ≡ S.steps streams.old ++ asked_until which kind)) }
-{
-    ask_for(streams, StandardStream::Input)?;
-    ask_for(streams, StandardStream::Output)?;
-    ask_for(streams, StandardStream::Error)
 }
 
 /// Asks for the streams that a live night tells to, in their order: standard output has to be open.
@@ -106,7 +86,6 @@ fn name_of(stream: StandardStream) -> &'static str
     ensures { result.now ≡ stream_name stream }
 {
     match stream {
-        StandardStream::Input => "standard input",
         StandardStream::Output => "standard output",
         StandardStream::Error => "standard error",
     }

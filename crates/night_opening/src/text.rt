@@ -4,7 +4,7 @@ ghost use Rattle.byte_reading.specs.declared.reading.Unread.{Unread as UnreadOf}
 ghost use Rattle.night_opening.specs.Texts.{IsSuitable, IsReadText, TextStep, input_name, input_of};
 ghost use Rattle.night_opening.specs.Texts.{read_bytes, text_step};
 
-use crate::fit::check_targets;
+use crate::fit::check_fit;
 use byte_reading::Unread;
 use cmd_faults::RunFault;
 use cmd_words::Night;
@@ -103,11 +103,11 @@ pub fn first_text<S: TextSource>(
     text_of(name, source.file(name, most))
 }
 
-/// The first bytes of the show of a night, whose targets suit it.
+/// The first bytes of the show of a night, which can be played as the night asks.
 ///
 /// # Errors
 ///
-/// As [`show_text`] and [`check_targets`].
+/// As [`show_text`] and [`check_fit`].
 pub fn suitable_show<S: TextSource>(
     alloc: Global,
     source: &mut S,
@@ -121,7 +121,7 @@ pub fn suitable_show<S: TextSource>(
         ≡ S.steps source.old ++ text_step (Some night.now.show) 1048577 answer ∷ []) }
 {
     let text = file_text(source, night.show.as_str())?;
-    check_targets(alloc, night, text.as_slice())?;
+    check_fit(alloc, night, text.as_slice())?;
     Ok(text)
 }
 

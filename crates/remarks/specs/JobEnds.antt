@@ -1,13 +1,13 @@
 -- How the program ends: its exit status, and what is told on standard error before.
 use Rattle.std.specs.Prelude.{◌≡◌, ℕ, Bool, true, false, List, [], ◌∷◌, ◌++◌, codes}
-use Rattle.std.specs.Prelude.{◌==◌, Result, Ok, Err, if◌then◌else◌, length}
+use Rattle.std.specs.Prelude.{◌==◌, ◌&&◌, not, Result, Ok, Err, if◌then◌else◌, length}
 use Rattle.std.specs.declared.io.ErrorKind.{ErrorKind}
 use Rattle.std.specs.declared.io.ErrorKind.TheVariants.{OutOfMemory}
 use Rattle.devices.specs.Tape.{Tape}
 use Rattle.cmd_faults.specs.declared.fault.RunFault.TheVariants as run
 use Rattle.cmd_faults.specs.Status.{Wrote, fault_status, fault_text}
 use Rattle.remarks.specs.Failures.{Fails}
-use Rattle.remarks.specs.Remarks.{of_device, remark_of}
+use Rattle.remarks.specs.Remarks.{RemarkBytes, of_device, remark_of}
 use Rattle.remarks.specs.declared.failure.Failure.{Failure}
 use Rattle.remarks.specs.declared.failure.JobFault.{JobFault}
 use Rattle.remarks.specs.declared.failure.JobFault.TheVariants as job
@@ -24,7 +24,7 @@ job_status (job.Record refusal) = 4
 
 -- the exit status: 0 where it ended well, and 2 where the words are refused by a text of their own
 abbrev pub end_status : JobEnd → ℕ
-end_status end.Well = 0
+end_status (end.Well remark) = 0
 end_status end.Refusal = 2
 end_status (end.Fault fault) = job_status fault
 
@@ -42,14 +42,19 @@ fault_remark (job.Words remark) = remark.items
 fault_remark (job.Doubts remark) = remark.items
 fault_remark (job.Record refusal) = refusal.remark.items
 
--- a remark stands on a line of its own; where nothing more is known there is none
-abbrev pub remark_texts : List ℕ → List (List ℕ)
-remark_texts remark = if length remark == 0 then [] else remark ∷ codes "\n" ∷ []
+-- where there are remarks, one stands on a line of its own; where nothing more is known there is
+-- none
+abbrev pub remark_texts : Bool → List ℕ → List (List ℕ)
+remark_texts has_remarks remark =
+    if has_remarks && not (length remark == 0) then remark ∷ codes "\n" ∷ [] else []
 
--- WHAT IS TOLD OF AN END: the line of its fault, and behind it the remark
-abbrev pub end_texts : JobEnd → List (List ℕ)
-end_texts (end.Fault fault) = fault_line fault ∷ remark_texts (fault_remark fault)
-end_texts _ = []
+-- WHAT IS TOLD OF AN END: the line of its fault, and behind it the remark, where there are remarks;
+-- so without them exactly that line, and nothing where it ended well
+abbrev pub end_texts : Bool → JobEnd → List (List ℕ)
+end_texts has_remarks (end.Well remark) = remark_texts has_remarks remark.items
+end_texts has_remarks end.Refusal = []
+end_texts has_remarks (end.Fault fault) =
+    fault_line fault ∷ remark_texts has_remarks (fault_remark fault)
 
 -- one write for each of these texts, the first first: the output took it all, or that write failed
 abbrev pub WroteEach : List (List ℕ) → Tape ℕ → Tape ℕ → Type 0
@@ -67,16 +72,21 @@ abbrev pub IsWordsFault : List ℕ → JobEnd → Type 0
 IsWordsFault text (end.Fault (job.Words remark)) = remark.items ≡ text
 IsWordsFault text _ = ⊥
 
+-- it ended well, with this remark
+abbrev pub EndsWell : List ℕ → JobEnd → Type 0
+EndsWell text (end.Well remark) = remark.items ≡ text
+EndsWell text _ = ⊥
+
 -- the end of a job
-abbrev pub end_of_job : Result Unit JobFault → JobEnd
-end_of_job (Ok done) = end.Well
+abbrev pub end_of_job : Result RemarkBytes JobFault → JobEnd
+end_of_job (Ok remark) = end.Well remark
 end_of_job (Err fault) = end.Fault fault
 
 -- the end where a text of its own was all that was to be told: of help on standard output it is a
 -- fault that this took no text, and of a refusal it is none that standard error took none
 abbrev pub IsEndOfText : Bool → Result Unit ErrorKind → JobEnd → Type 0
 IsEndOfText true shown ended = ended ≡ end.Refusal
-IsEndOfText false (Ok done) ended = ended ≡ end.Well
+IsEndOfText false (Ok done) ended = EndsWell [] ended
 IsEndOfText false (Err reason) ended =
     IsRunFault (Fails run.Device (of_device (codes "standard output") reason)) ended
 

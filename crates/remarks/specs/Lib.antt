@@ -7,6 +7,7 @@ pub mod Failures
 pub mod Targets
 pub mod Cards
 pub mod JobEnds
+pub mod Asking
 pub mod Devices
 pub mod Listening
 pub mod RunEnds

@@ -3,8 +3,13 @@ use Rattle.std.specs.Prelude.{ℕ, List, [], ◌∷◌, ◌++◌, ◌&&◌, code
 use Rattle.std.specs.Prelude.{nat_le, take}
 use Rattle.std.specs.Str.{chars}
 use Rattle.std.specs.declared.io.ErrorKind.{ErrorKind}
+use Rattle.arrayvec.specs.declared.array_vec.ArrayVec.{ArrayVec}
 use Rattle.live_machine.specs.Failure.{words_for}
 use Rattle.cmd_explain.specs.Skipped.{display_text}
+
+-- a remark, as its bytes are kept
+abbrev pub RemarkBytes : Type 0
+RemarkBytes = ArrayVec ℕ 512 (Unit {0})
 
 -- what is shown of a part, as of a line of a file: its first 200 bytes
 abbrev pub excerpt : List ℕ → List ℕ

@@ -25,8 +25,8 @@ const RECORD_REFUSED: u8 = 4;
 /// How the program ends.
 #[derive(Debug, Drop)]
 pub enum JobEnd {
-    /// Well.
-    Well,
+    /// Well, with a remark on what was found.
+    Well(Remark),
     /// Its words are refused, and the whole text of that was told.
     Refusal,
     /// By a fault.
@@ -35,11 +35,11 @@ pub enum JobEnd {
 
 impl JobEnd {
     /// The end of a job.
-    pub fn of_job(answer: Result<(), JobFault>) -> JobEnd
+    pub fn of_job(answer: Result<Remark, JobFault>) -> JobEnd
         ensures { result ≡ spec.end_of_job answer }
     {
         match answer {
-            Ok(()) => JobEnd::Well,
+            Ok(remark) => JobEnd::Well(remark),
             Err(fault) => JobEnd::Fault(fault),
         }
     }
@@ -52,7 +52,7 @@ impl JobEnd {
     {
         match shown {
             _ if is_refusal => JobEnd::Refusal,
-            Ok(()) => JobEnd::Well,
+            Ok(()) => JobEnd::Well(Remark::new()),
             Err(kind) => {
                 JobEnd::Fault(JobFault::Run(Failure::of_device("standard output", kind)))
             }
@@ -83,30 +83,35 @@ impl JobEnd {
         JobEnd::Fault(JobFault::Run(Failure::from(RunFault::Memory)))
     }
 
-    /// Tells how the program ends, and answers its exit status, 0 to 6. Each text is one write. The
-    /// status is the same where a write fails, and the next text is written then too.
-    pub fn tell<W: Output>(&self, err: &mut W) -> u8
+    /// Tells how the program ends, with its remark where there are remarks, and answers its exit
+    /// status, 0 to 6. Each text is one write. The status is the same where a write fails, and the
+    /// next text is written then too.
+    pub fn tell<W: Output>(&self, has_remarks: bool, err: &mut W) -> u8
         ensures status { result ≡ spec.end_status self.now }
         ensures told { W.tells err.new → W.tells err.old }
         ensures texts { W.tells err.new
-            → WroteEach (spec.end_texts self.now) (W.tape err.old) (W.tape err.new) }
+            → WroteEach (spec.end_texts has_remarks self.now) (W.tape err.old) (W.tape err.new) }
     {
         match self {
-            JobEnd::Well => 0,
+            JobEnd::Well(remark) => {
+                tell_remark(remark, has_remarks, err);
+                0
+            }
             JobEnd::Refusal => WORDS_REFUSED,
-            JobEnd::Fault(fault) => tell_fault(fault, err),
+            JobEnd::Fault(fault) => tell_fault(fault, has_remarks, err),
         }
     }
 }
 
-fn tell_fault<W: Output>(fault: &JobFault, err: &mut W) -> u8
+fn tell_fault<W: Output>(fault: &JobFault, has_remarks: bool, err: &mut W) -> u8
     ensures status { result ≡ spec.job_status fault.now }
     ensures told { W.tells err.new → W.tells err.old }
     ensures texts { W.tells err.new
-        → WroteEach (spec.end_texts (JobEnd.Fault fault.now)) (W.tape err.old) (W.tape err.new) }
+        → WroteEach (spec.end_texts has_remarks (JobEnd.Fault fault.now)) (W.tape err.old)
+        (W.tape err.new) }
 {
     let status = tell_line(fault, err);
-    tell_remark(remark_of(fault), err);
+    tell_remark(remark_of(fault), has_remarks, err);
     status
 }
 
@@ -137,20 +142,20 @@ fn remark_of(fault: &JobFault) -> &Remark
     }
 }
 
-// Tells a remark on a line of its own.
-fn tell_remark<W: Output>(remark: &Remark, err: &mut W)
+/// Tells a remark on a line of its own, where there are remarks.
+pub fn tell_remark<W: Output>(remark: &Remark, has_remarks: bool, err: &mut W)
     ensures told { W.tells err.new → W.tells err.old }
-    ensures texts { W.tells err.new
-        → WroteEach (spec.remark_texts remark.now.items) (W.tape err.old) (W.tape err.new) }
+    ensures texts { W.tells err.new → WroteEach (spec.remark_texts has_remarks remark.now.items)
+        (W.tape err.old) (W.tape err.new) }
 {
-    if !remark.is_empty() {
+    if has_remarks && !remark.is_empty() {
         tell_text(remark.as_slice(), err);
         tell_text(b"\n", err);
     }
 }
 
-/// Tells a text in one write. That it is not told is told nowhere.
-pub fn tell_text<W: Output>(text: &[u8], err: &mut W)
+// Tells a text in one write. That it is not told is told nowhere.
+fn tell_text<W: Output>(text: &[u8], err: &mut W)
     ensures told { W.tells err.new → W.tells err.old }
     ensures text { W.tells err.new → Wrote text.now (W.tape err.old) (W.tape err.new) }
 {

@@ -10,6 +10,7 @@
 //! ```
 #![tactic(auto)]
 
+mod asking;
 mod card;
 mod device;
 mod ended_run;
@@ -24,12 +25,13 @@ mod target;
 mod text_line;
 mod weight;
 
+pub use asking::has_remarks;
 pub use card::{DownCards, of_card, of_route};
 pub use device::{no_lock, of_lock, of_missing, of_record};
 pub use ended_run::{night_end, run_end};
 pub use failure::{Failure, JobFault, LostPacket};
-pub use job_end::{JobEnd, tell_text};
-pub use listening::tell_listening;
+pub use job_end::{JobEnd, tell_remark};
+pub use listening::of_listening;
 pub use misfit::of_misfit;
 pub use name::{NameText, of_name};
 pub use refusal::{Refusal, RefusalLine};

@@ -1,30 +1,27 @@
-ghost use Rattle.remarks.specs.JobEnds.{WroteEach};
-ghost use Rattle.remarks.specs.Listening.{group_texts, listening_texts};
+ghost use Rattle.std.specs.Prelude.{◌≡◌, [], ◌∷◌, codes};
+ghost use Rattle.remarks.specs.Listening.{group_words, of_listening};
+ghost use Rattle.remarks.specs.Remarks.{remark_of};
 
-use crate::job_end::tell_text;
-use devices::Output;
+use crate::remark::{Remark, join, part};
 
-/// Tells that a socket is bound to this address, of this host. Each text is one write.
-pub fn tell_listening<W: Output>(address: &str, host: [u8; 4], err: &mut W)
-    ensures told { W.tells err.new → W.tells err.old }
-    ensures texts { W.tells err.new
-        → WroteEach (listening_texts address.now host) (W.tape err.old) (W.tape err.new) }
+/// A socket is bound to this address, of this host.
+pub fn of_listening(address: &str, host: [u8; 4]) -> Remark
+    ensures { result.items ≡ of_listening address.now host }
 {
-    tell_text(b"listening at ", err);
-    tell_text(address.as_bytes(), err);
-    tell_text(b"\n", err);
-    tell_group(host, err);
+    at_address(address, group_words(host))
 }
 
-fn tell_group<W: Output>(host: [u8; 4], err: &mut W)
-    ensures told { W.tells err.new → W.tells err.old }
-    ensures texts { W.tells err.new
-        → WroteEach (group_texts host) (W.tape err.old) (W.tape err.new) }
+fn at_address(address: &str, words: &str) -> Remark
+    ensures { result.items ≡ remark_of (codes "listening at " ∷ address.now ∷ words.now ∷ []) }
 {
-    if let [239, 255, ..] = host {
-        tell_text(
-            b"this machine hears a multicast group only where it has joined it\n",
-            err,
-        );
+    join(&[b"listening at ", part(address), part(words)])
+}
+
+fn group_words(host: [u8; 4]) -> &'static str
+    ensures { result.now ≡ group_words host }
+{
+    match host {
+        [239, 255, ..] => ": this machine hears a multicast group only where it has joined it",
+        _ => "",
     }
 }

@@ -9,11 +9,12 @@ use Rattle.show_reader.specs.Text.{statements_of}
 use Rattle.show_reader.proofs.OneShow.{of_its_show}
 use Rattle.cmd_explain.specs.Weights.{IsWeightOf}
 use Rattle.cmd_explain.specs.declared.weight.Weight.{Weight}
+use Rattle.cmd_faults.specs.declared.fault.RunFault.{RunFault}
 use Rattle.remarks.specs.Weights.{IsStrictEnd}
 use Rattle.remarks.specs.declared.failure.JobFault.{JobFault}
 use Rattle.remarks.specs.declared.failure.JobFault.TheVariants as job
 use Rattle.show_jobs.specs.Checks.{IsCheckEnd, IsWeighedEnd}
-use Rattle.show_jobs.specs.JobRuns.{run_of_job}
+use Rattle.show_jobs.specs.JobRuns.{TellsOfRun, run_of_job}
 
 -- the weight of the show that was read is that of each
 pub weight_is : (text : List ℕ) (count : ℕ) (s : Tables) (weight : Weight)
@@ -33,11 +34,18 @@ strict_end text weight ended weighs end = (
   λ s is. record { weight = weight; weighs = weighs.1 s is; end = end },
 )
 
--- its run has ended well
-pub strict_run : (weight : Weight) (ended : Result Unit JobFault) → IsStrictEnd weight ended
-    → run_of_job ended ≡ Ok tt
-strict_run weight (Ok done) end = refl
-strict_run weight (Err (job.Run failure)) end = elim end [ ]
-strict_run weight (Err (job.Record refusal)) end = elim end [ ]
-strict_run weight (Err (job.Doubts remark)) end = refl
-strict_run weight (Err (job.Words remark)) end = elim end [ ]
+-- its run has ended well, where it has doubts too
+pub strict_run : (A : Type 0) (weight : Weight) (fault : JobFault)
+    → IsStrictEnd weight (Err fault) → run_of_job {A = A} (Err fault) ≡ Ok tt
+strict_run A weight (job.Run failure) end = elim end [ ]
+strict_run A weight (job.Record refusal) end = elim end [ ]
+strict_run A weight (job.Doubts remark) end = refl
+strict_run A weight (job.Words remark) end = elim end [ ]
+
+-- and nothing is told of a fault of the run
+pub strict_remark : (A : Type 0) (told : RunFault → List ℕ) (weight : Weight) (fault : JobFault)
+    → IsStrictEnd weight (Err fault) → TellsOfRun {A = A} told (Err fault)
+strict_remark A told weight (job.Run failure) end = elim end [ ]
+strict_remark A told weight (job.Record refusal) end = tt
+strict_remark A told weight (job.Doubts remark) end = tt
+strict_remark A told weight (job.Words remark) end = tt

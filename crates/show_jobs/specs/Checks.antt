@@ -1,16 +1,13 @@
 -- How a check of a show ends.
 use Rattle.std.specs.Prelude.{ℕ, ◌≡◌, Bool, true, false, List, Result, Ok, Err}
-use Rattle.devices.specs.Tape.{Tape}
 use Rattle.show.specs.Tables.{Tables}
 use Rattle.show_line.specs.Said.{desk_limits}
 use Rattle.show_reader.specs.ItsShow.{OfItsShow}
 use Rattle.show_reader.specs.Reading.{lines_read}
 use Rattle.cmd_explain.specs.Weights.{IsWeightOf}
 use Rattle.cmd_explain.specs.declared.weight.Weight.{Weight}
-use Rattle.cmd_faults.specs.declared.fault.RunFault.{RunFault}
 use Rattle.remarks.specs.Weights.{IsStrictEnd}
 use Rattle.remarks.specs.declared.failure.JobFault.{JobFault}
-use Rattle.show_jobs.specs.Seemings.{TellsSeeming}
 
 -- a check ends as the weight of this show has it
 pub record IsWeighedEnd (text : List ℕ) (show : Tables) (ended : Result Unit JobFault)
@@ -23,8 +20,3 @@ pub record IsWeighedEnd (text : List ℕ) (show : Tables) (ended : Result Unit J
 abbrev pub IsCheckEnd : Bool → List ℕ → Result Unit JobFault → Type 0
 IsCheckEnd false text ended = ended ≡ Ok tt
 IsCheckEnd true text ended = OfItsShow text (λ s. IsWeighedEnd text s ended)
-
--- what it tells: what the file seems to be, where the run ended well; else nothing so far
-abbrev pub TellsOfFile : Result Unit RunFault → List ℕ → Tape ℕ → Tape ℕ → Type 0
-TellsOfFile (Ok done) text before after = TellsSeeming text before after
-TellsOfFile (Err fault) text before after = after ≡ before

@@ -1,12 +1,10 @@
 -- What is told of a file that seems to be no show.
-use Rattle.std.specs.Prelude.{ℕ, ◌≡◌, List, [], ◌∷◌, Option, Some, None, codes}
+use Rattle.std.specs.Prelude.{ℕ, ◌≡◌, List, [], Option, Some, None}
 use Rattle.std.specs.FinMap as maps
-use Rattle.devices.specs.Tape.{Tape}
 use Rattle.show_line.specs.Said.{desk_limits}
 use Rattle.show_reader.specs.ItsShow.{OfItsShow}
 use Rattle.show_reader.specs.Reading.{NothingGrows, text_fault}
 use Rattle.cmd_explain.specs.Encoding.{likely_kind}
-use Rattle.remarks.specs.JobEnds.{WroteEach}
 use Rattle.remarks.specs.Remarks.{of_seeming}
 
 -- the file seems to be this, which is no text; what is read of it is a show without cues
@@ -21,13 +19,11 @@ abbrev pub IsSeeming : List ℕ → Option (List ℕ) → Type 0
 IsSeeming file (Some what) = SeemsToBe file what
 IsSeeming file None = NothingGrows desk_limits file → (what : List ℕ) → SeemsToBe file what → ⊥
 
--- it is told on a line of its own
-abbrev pub seeming_texts : Option (List ℕ) → List (List ℕ)
-seeming_texts None = []
-seeming_texts (Some what) = of_seeming what ∷ codes "\n" ∷ []
+-- WHAT IS REMARKED OF A FILE: what it seems to be, where that is no show
+abbrev pub seeming_remark : Option (List ℕ) → List ℕ
+seeming_remark None = []
+seeming_remark (Some what) = of_seeming what
 
--- WHAT IS TOLD OF A FILE: what it seems to be, where that is no show
-pub record TellsSeeming (file : List ℕ) (before after : Tape ℕ) : Type 0 where
-  pub what : Option (List ℕ)
-  pub seems : IsSeeming file what
-  pub told : WroteEach (seeming_texts what) before after
+abbrev pub IsSeemingRemark : List ℕ → List ℕ → Type 0
+IsSeemingRemark file remark =
+    (what : Option (List ℕ)) × IsSeeming file what × (remark ≡ seeming_remark what)

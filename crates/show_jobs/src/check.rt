@@ -8,74 +8,70 @@ ghost use Rattle.cmd_show.specs.Faults.{CheckFails, ReadFails, ReadsFirst};
 ghost use Rattle.cmd_show.specs.Prints.{IsCheckOf, PrintsTo};
 ghost use Rattle.remarks.specs.Failures.{of_run};
 ghost use Rattle.remarks.specs.RunEnds.{TellsOf, run_of};
-ghost use Rattle.show_jobs.specs.Checks.{IsCheckEnd, TellsOfFile};
-ghost use Rattle.show_jobs.specs.JobRuns.{TellsOfRun, run_of_job};
+ghost use Rattle.show_jobs.specs.Checks.{IsCheckEnd};
+ghost use Rattle.show_jobs.specs.JobRuns.{TellsOfRun, end_of, run_of_job};
+ghost use Rattle.show_jobs.specs.Seemings.{IsSeemingRemark};
 
-use crate::seeming::tell_seeming;
+use crate::seeming::seeming_remark;
 use cmd_explain::{Weight, weigh};
 use cmd_faults::RunFault;
 use cmd_show::check;
-use devices::Output;
 use job_devices::JobOutput;
-use remarks::{Failure, JobFault, run_end, strict_end};
+use remarks::{Failure, JobFault, Remark, run_end, strict_end};
 use show_reader::read_show;
 use std::alloc::Global;
 
-/// Checks a show: prints its counts, and then tells what its file seems to be, where that is no
-/// show. A strict check weighs the show before anything is printed, and ends as its weight has it.
+/// Checks a show: prints its counts, and remarks what its file seems to be, where that is no show.
+/// A strict check weighs the show before anything is printed, and ends as its weight has it.
 ///
 /// # Errors
 ///
 /// `Run` with the fault of [`check`], and what is told of it; `Doubts` where a strict check has
 /// some.
-#[tactic(auto, using(crate::proofs::Checks::strict_end, crate::proofs::Checks::strict_run))]
-pub fn check_show<W: JobOutput, E: Output>(
+#[tactic(auto, using(crate::proofs::Checks::strict_end, crate::proofs::Checks::strict_run, crate::proofs::Checks::strict_remark))]
+pub fn check_show<W: JobOutput>(
     alloc: Global,
     show: &[u8],
     is_strict: bool,
     out: &mut W,
-    err: &mut E,
-) -> Result<(), JobFault>
+) -> Result<Remark, JobFault>
     requires { length show.now < 2 ^ 32 }
     ensures prints { PrintsTo W.tells W.tape out.old out.new (run_of_job result)
         (IsCheckOf show.now) }
     ensures reads { ReadsFirst show.now (CheckFails show.now) (run_of_job result) }
     ensures remark { TellsOfRun (λ fault. of_run fault show.now (W.reason out.new)) result }
-    ensures end { OnOk (run_of_job result) (IsCheckEnd is_strict show.now result) }
-    ensures told { E.tells err.new → E.tells err.old }
-    ensures texts { E.tells err.new
-        → TellsOfFile (run_of_job result) show.now (E.tape err.old) (E.tape err.new) }
+    ensures end { OnOk (run_of_job result) (IsCheckEnd is_strict show.now (end_of result)) }
+    ensures seeming { IfOk result (λ remark. IsSeemingRemark show.now remark.items) }
 {
     if !is_strict {
-        return Ok(check_and_tell(alloc, show, out, err)?);
+        return Ok(check_and_remark(alloc, show, out)?);
     }
     match weight_of(alloc, show) {
         Ok(weight) => {
-            check_and_tell(alloc, show, out, err)?;
-            strict_end(weight)
+            let remark = check_and_remark(alloc, show, out)?;
+            match strict_end(weight) {
+                Ok(()) => Ok(remark),
+                Err(doubts) => Err(doubts),
+            }
         }
         Err(fault) => Err(JobFault::Run(Failure::of_run(fault, show, out.failure()))),
     }
 }
 
-fn check_and_tell<W: JobOutput, E: Output>(
+fn check_and_remark<W: JobOutput>(
     alloc: Global,
     show: &[u8],
     out: &mut W,
-    err: &mut E,
-) -> Result<(), Failure>
+) -> Result<Remark, Failure>
     ensures prints { PrintsTo W.tells W.tape out.old out.new (run_of result)
         (IsCheckOf show.now) }
     ensures reads { ReadsFirst show.now (CheckFails show.now) (run_of result) }
     ensures remark { TellsOf (λ fault. of_run fault show.now (W.reason out.new)) result }
-    ensures told { E.tells err.new → E.tells err.old }
-    ensures texts { E.tells err.new
-        → TellsOfFile (run_of result) show.now (E.tape err.old) (E.tape err.new) }
+    ensures seeming { IfOk result (λ remark. IsSeemingRemark show.now remark.items) }
 {
     let answer = check(alloc, show, out);
     run_end(answer, show, out.failure())?;
-    tell_seeming(alloc, show, err);
-    Ok(())
+    Ok(seeming_remark(alloc, show))
 }
 
 // How much of a show may mean something else than is played.

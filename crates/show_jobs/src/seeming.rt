@@ -1,22 +1,19 @@
 ghost use Rattle.std.specs.Prelude.{◌≡◌, option_map};
-ghost use Rattle.show_jobs.specs.Seemings.{IsSeeming, TellsSeeming};
+ghost use Rattle.show_jobs.specs.Seemings.{IsSeeming, IsSeemingRemark};
 
 use cmd_explain::seems;
-use devices::Output;
-use remarks::{of_seeming, tell_text};
+use remarks::{Remark, of_seeming};
 use show_reader::read_show;
 use std::alloc::Global;
 
-/// Tells what a file seems to be that is no text, and whose show has no cue; nothing of another
-/// file, and nothing where there was no memory to read its show. The text and its line feed are
-/// one write each.
-pub fn tell_seeming<E: Output>(alloc: Global, file: &[u8], err: &mut E)
-    ensures told { E.tells err.new → E.tells err.old }
-    ensures texts { E.tells err.new → TellsSeeming file.now (E.tape err.old) (E.tape err.new) }
+/// What a file seems to be that is no text, and whose show has no cue; nothing of another file, and
+/// nothing where there was no memory to read its show.
+pub fn seeming_remark(alloc: Global, file: &[u8]) -> Remark
+    ensures { IsSeemingRemark file.now result.items }
 {
-    if let Some(what) = seeming(alloc, file) {
-        tell_text(of_seeming(what).as_slice(), err);
-        tell_text(b"\n", err);
+    match seeming(alloc, file) {
+        Some(what) => of_seeming(what),
+        None => Remark::new(),
     }
 }
 

@@ -1,5 +1,5 @@
-//! Each listen, each watch and each rehearsal: what it prints on standard output, what it tells on
-//! standard error, and how it ends.
+//! Each listen, each watch and each rehearsal: what it prints on standard output, what a listen
+//! remarks on standard error, and how it ends.
 //!
 //! ```
 //! let kind = ErrorKind::BrokenPipe;

@@ -2,8 +2,8 @@ ghost use Rattle.std.specs.Prelude.{◌≡◌, ◌≤◌, All, IfErr};
 ghost use Rattle.cmd_listen.specs.Listening.{Listens};
 ghost use Rattle.cmd_listen.specs.Runs.{Watches};
 ghost use Rattle.remarks.specs.Failures.{of_watch};
-ghost use Rattle.remarks.specs.JobEnds.{WroteEach};
-ghost use Rattle.remarks.specs.Listening.{listening_texts};
+ghost use Rattle.remarks.specs.JobEnds.{WroteEach, remark_texts};
+ghost use Rattle.remarks.specs.Listening.{of_listening};
 ghost use Rattle.remarks.specs.RunEnds.{TellsOf, run_of};
 ghost use Rattle.stream_jobs.specs.Listens.{of_listen};
 
@@ -11,7 +11,7 @@ use cmd_faults::RunFault;
 use cmd_listen::{listen, watch};
 use devices::{Feed, Output};
 use job_devices::{JobOutput, JobSource};
-use remarks::{Failure, run_end, tell_listening};
+use remarks::{Failure, of_listening, run_end, tell_remark};
 use std::alloc::Global;
 use std::io::ErrorKind;
 
@@ -27,9 +27,9 @@ pub struct ListenPlace<'a> {
     pub count: u32,
 }
 
-/// Tells where it listens, receives so many datagrams as a receiver of the universe, and prints the
-/// reply to each and, after the last one, the slots. Of a socket and of standard output that
-/// failed, the socket is told.
+/// Remarks where it listens, where there are remarks, receives so many datagrams as a receiver of
+/// the universe, and prints the reply to each and, after the last one, the slots. Of a socket and of
+/// standard output that failed, the socket is told.
 ///
 /// # Errors
 ///
@@ -37,6 +37,7 @@ pub struct ListenPlace<'a> {
 pub fn listen_at<D: JobSource, W: JobOutput, E: Output>(
     source: &mut D,
     place: ListenPlace<'_>,
+    has_remarks: bool,
     out: &mut W,
     err: &mut E,
 ) -> Result<(), Failure>
@@ -52,10 +53,11 @@ pub fn listen_at<D: JobSource, W: JobOutput, E: Output>(
         result }
     ensures told { E.tells err.new → E.tells err.old }
     ensures texts { let place = place.entry in E.tells err.new
-        → WroteEach (listening_texts place.address.now place.host) (E.tape err.old)
-        (E.tape err.new) }
+        → WroteEach (remark_texts has_remarks (of_listening place.address.now place.host))
+        (E.tape err.old) (E.tape err.new) }
 {
-    tell_listening(place.address, place.host, err);
+    let remark = of_listening(place.address, place.host);
+    tell_remark(&remark, has_remarks, err);
     let answer = listen(source, place.universe, place.count, out);
     listen_end(answer, source.failure(), out.failure())
 }

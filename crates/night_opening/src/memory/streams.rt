@@ -9,7 +9,6 @@ use std::io::ErrorKind;
 /// Why each stream is closed, if it is.
 #[derive(Clone, Copy, Debug)]
 pub struct ClosedStreams {
-    pub input: Option<ErrorKind>,
     pub output: Option<ErrorKind>,
     pub error: Option<ErrorKind>,
 }
@@ -27,7 +26,6 @@ impl StandardStreams for MemoryStreams {
         ensures keeps { OnlyKeeps self.old self.new (stream_step stream (closing_reason result)) }
     {
         let closed = match stream {
-            StandardStream::Input => self.answers.input,
             StandardStream::Output => self.answers.output,
             StandardStream::Error => self.answers.error,
         };

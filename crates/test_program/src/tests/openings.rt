@@ -2,9 +2,7 @@ use memory_steps::MemorySteps;
 use night_opening::memory::{
     ClosedStreams, LookedAt, MemoryHead, MemoryLook, MemoryRecordStart, MemoryStreams, RecordDeed,
 };
-use night_opening::{
-    LiveWords, StandardStream, ask_for_screen, ask_for_standard, begin_record, live_name,
-};
+use night_opening::{LiveWords, StandardStream, ask_for_screen, begin_record, live_name};
 use night_record::{FirstLines, NightOpening};
 use std::alloc::Global;
 use std::io::ErrorKind;
@@ -21,7 +19,6 @@ const WORDS: LiveWords<'static> = LiveWords {
 // The streams of a program of which standard output is closed.
 fn streams(alloc: Global) -> MemoryStreams {
     let closed = ClosedStreams {
-        input: None,
         output: Some(ErrorKind::NotFound),
         error: None,
     };
@@ -40,9 +37,6 @@ fn were_asked_for(streams: &MemoryStreams, asked: &[StandardStream]) -> bool {
 
 #[test]
 fn no_stream_is_asked_for_behind_a_closed_one(rt: HostRuntime) {
-    let mut all = streams(rt.alloc());
-    assert!(rt; ask_for_standard(&mut all).is_err());
-    assert!(rt; were_asked_for(&all, &[StandardStream::Input, StandardStream::Output]));
     let mut screen = streams(rt.alloc());
     assert!(rt; ask_for_screen(&mut screen).is_err());
     assert!(rt; were_asked_for(&screen, &[StandardStream::Output]));

@@ -4,8 +4,8 @@ use Rattle.night_opening.specs.Fits.{have_numbers, universes}
 use Rattle.night_opening.proofs.Fitting.{no_number}
 use Rattle.night_opening.proofs.fit.universes.Goals as goal
 
-pub returns-then-universe-gt65535 : goal.returns-then-universe-gt65535
-returns-then-universe-gt65535 c =
+pub returns-then-universe-gt63999 : goal.returns-then-universe-gt63999
+returns-then-universe-gt63999 c =
     let base = c.args.base in
     let ordinals = c.args.ordinals.now.items in
     let at = c.loop-ordinal.ordinal-index in
@@ -14,11 +14,11 @@ returns-then-universe-gt65535 c =
       c.loop-ordinal-test.true,
       ap length c.as_slice-ordinal-items.ensures.value,
     ) in
-    let over : 65535 < base + get_or ordinals at 0 =
+    let over : 63999 < base + get_or ordinals at 0 =
     grind (
       arith,
       nat_tests,
-      c.if-universe-gt65535.true,
+      c.if-universe-gt63999.true,
       c.from.ensures,
       c.from-in-loop-ordinal.ensures,
     ) in
