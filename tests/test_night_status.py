@@ -185,11 +185,15 @@ class Status(RefusedTest):
         self.begin_well()
         spare, keeper = self.number("spare"), self.number("lock")
         self.addCleanup(self.go_on, keeper)
+        # It would have another one stand by.
+        stand_still(keeper)
         stand_still(spare)
         told = self.health()
-        self.assertEqual(5, told["status"])
-        self.assertTrouble(told, "spare", rf"the spare \(process {spare}\) does not read")
-        os.kill(spare, signal.SIGCONT)
+        self.assertEqual((5, ["spare", "keeper"]),
+                         (told["status"], [each["kind"] for each in told["trouble"]]))
+        self.assertIn(f"the spare (process {spare}) does not read", told["trouble"][0]["text"])
+        for number in (spare, keeper):
+            os.kill(number, signal.SIGCONT)
         (self.night / "show").write_bytes(b"CUE 1\n")
         self.show.write_bytes(b"CUE 1\n")
         self.kill("spare")

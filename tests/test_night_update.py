@@ -3,16 +3,47 @@
 import time
 import unittest
 
-from folders import FolderNightTest, resumes
+from folders import SHOW, FolderNightTest, resumes
 from machine import by_clock, in_time
-from program import text
+from program import FolderTest, text
+from restarts import head
+from tooling import PATIENCE
 from wire import SLOT_1
+
+from cueplayer_tools.keeper.folder import Folder
+from cueplayer_tools.keeper.show_copy import begin_cue, find_show
 
 NO_RESUME = "the program does not know --resume"
 # Cue 1 is at another level than in the show of the night, and there is no cue 2.
 NEW = text("CUE 1", "CHAN 1@20", "CUE 3", "CHAN 1@60", "PATCH 1 1<1@FL")
 # For how long receivers hold the light.
 HELD = 2500
+
+
+class Copy(FolderTest):
+    """Which file of a show is played, at each moment of a night that begins anew."""
+
+    def test_show(self):
+        named = self.file("named.asc", SHOW)
+        folder = Folder(str(self.folder))
+        copy = self.file("show", NEW)
+        begin = self.file("begin", b"1\n")
+        # `live` has begun, and its record comes a moment later.
+        self.assertEqual((str(copy), "1"), (find_show(folder, str(named)), begin_cue(folder)))
+        self.assertEqual(NEW, copy.read_bytes())
+        record = self.file("record", head(NEW))
+        self.assertIsNone(begin_cue(folder))
+        self.assertEqual(str(copy), find_show(folder, str(named)))
+        self.assertFalse(begin.exists())
+        # The record of an older version has no copy beside it, or one that was damaged.
+        record.write_bytes(head(SHOW))
+        self.assertEqual(str(copy), find_show(folder, str(named)))
+        self.assertEqual(SHOW, copy.read_bytes())
+        # A night that has not begun is of the file as it stands.
+        record.unlink()
+        named.write_bytes(NEW)
+        self.assertEqual(str(copy), find_show(folder, str(named)))
+        self.assertEqual(NEW, copy.read_bytes())
 
 
 @unittest.skipUnless(resumes(), NO_RESUME)
@@ -45,6 +76,7 @@ class Update(FolderNightTest):
         levels = {each[SLOT_1] for each in self.came(0)}
         status, out, _ = self.run_script("start", "--background")
         self.assertEqual(0, status, out)
+        self.receiver.settimeout(PATIENCE)
         first = self.receiver.recv(1500)
         came = time.time()
         self.assertIn("the night begins anew in cue 1, its masters at full, with the updated", out)

@@ -5,7 +5,6 @@ by one of the FIFO; where the system has none, it looks every 30 ms. The light d
 where it is killed, `live` plays on.
 """
 
-import contextlib
 import os
 import signal
 import time
@@ -20,7 +19,6 @@ from cueplayer_tools.keeper.helpers import Helpers
 from cueplayer_tools.keeper.locks import await_lock, take_lock, write_number
 from cueplayer_tools.keeper.players import find_keeper, find_live
 from cueplayer_tools.keeper.processes import Process, Starter, find_policy, set_policy, wait_for
-from cueplayer_tools.keeper.show_copy import BEGIN
 from cueplayer_tools.keeper.spare import Spare
 from cueplayer_tools.keeper.stand_still import LOOK_EVERY
 from cueplayer_tools.keeper.streams import Failure
@@ -134,8 +132,6 @@ class KeptNight:
     def _begin(self) -> None:
         """Notes that `live` plays, and tells it where it did not for a while."""
         self.is_begun = self.has_played = True
-        with contextlib.suppress(OSError):
-            os.unlink(self.folder.file(BEGIN))
         if self.trouble is not None:
             self.tell(f"live (process {self.live.number}) plays again")
         self.trouble = self.said = None

@@ -142,11 +142,12 @@ class Starter:
                     os.close(self.lock)
             return number
 
-    def _given(self) -> list[str]:
-        """The words of `live`. A night that has begun is not begun at a cue again."""
+    def _given(self, is_spare: bool) -> list[str]:
+        """The words of `live`. A night that has begun is not begun at a cue again, and not by its
+        spare."""
         given: list[str] = []
-        cue = begin_cue(self.folder)
-        has_place = cue is not None or self.folder.has_record()
+        cue = None if is_spare else begin_cue(self.folder)
+        has_place = is_spare or cue is not None or self.folder.has_record()
         is_skipped = False
         for word in self.words:
             if is_skipped:
@@ -165,7 +166,7 @@ class Starter:
         the priority of real time: that may keep a processor busy for seconds, and `live` is not to
         wait for it."""
         record = ["--record", self.folder.file("record"), "--resume"]
-        words = [self.program, "live", *self._given(), *options, *record]
+        words = [self.program, "live", *self._given(bool(options)), *options, *record]
         relay = None if known is None else self._start_relay(known)
         number = self.fork()
         if not number:

@@ -1,6 +1,7 @@
 """The show of a night: its folder has a copy, which all restarts and spares play, whatever becomes
 of the file that was named."""
 
+import contextlib
 import hashlib
 import os
 import re
@@ -70,6 +71,10 @@ def find_show(folder: Folder, named: str) -> str:
     one of the file that was named; the program tells why that cannot be read."""
     copy = folder.file(COPY)
     is_begun = folder.has_record() or folder.is_file(BEGIN)
+    if folder.has_record():
+        # Not before: what `live` records comes a moment behind its start.
+        with contextlib.suppress(OSError):
+            os.unlink(folder.file(BEGIN))
     if is_begun and folder.is_file(COPY):
         if is_of_record(folder, copy) or not is_of_record(folder, named):
             return copy
