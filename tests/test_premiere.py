@@ -163,7 +163,8 @@ class Night(PremiereTest):
         """Where nobody plays a night that is kept, that is told, with where to look."""
         night = Premiere(self.night)
         with mock.patch.object(premiere_night, "PATIENCE", 0.1):
-            with self.assertRaisesRegex(Refused, f"nobody plays the night yet.*{self.night}/replies"):
+            told = f"nobody plays the night yet.*{self.night}/replies"
+            with self.assertRaisesRegex(Refused, told):
                 night.await_live()
 
     def test_cid_in_use(self):
