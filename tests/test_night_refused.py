@@ -45,6 +45,10 @@ class RefusedTest(FolderNightTest):
         wait_for(are_there, f"{times} starts")
         return seen
 
+    def go_on(self, number):
+        with contextlib.suppress(ProcessLookupError):
+            os.kill(number, signal.SIGCONT)
+
     def writer(self):
         """The process that writes the record for `live`; the spare has one too."""
         live = self.number("pid")
@@ -111,7 +115,7 @@ class Refused(RefusedTest):
         self.go(1)
         spare, live, writer = self.spare(), self.number("pid"), self.writer()
         stand_still(writer)
-        self.addCleanup(lambda: contextlib.suppress(OSError) or os.kill(writer, signal.SIGCONT))
+        self.addCleanup(self.go_on, writer)
         killed = time.monotonic()
         os.kill(live, signal.SIGKILL)
         self.wait_for_reply("the record is still written for a live that is gone: the disk stalls")

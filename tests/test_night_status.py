@@ -175,12 +175,6 @@ class Status(RefusedTest):
         self.wait_for_reply("nothing writes it any more")
         self.assertEqual(4, self.health()["status"])
 
-    def go_on(self, number):
-        try:
-            os.kill(number, signal.SIGCONT)
-        except ProcessLookupError:
-            pass
-
     def test_no_spare(self):
         self.begin_well()
         spare, keeper = self.number("spare"), self.number("lock")
