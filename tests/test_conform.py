@@ -246,7 +246,7 @@ class Tool(FolderTest):
     def test_command(self):
         """A receiver of the user's, over UDP and in real time."""
         with serve(small_receivers.ShowsPreviews, range(1, 6), self.folder) as words:
-            chosen = ("--rule", "preview", "--rule", "numbering")
+            chosen = ("--settle", 600, "--rule", "preview", "--rule", "numbering")
             result = self.result("receiver", *words, *chosen)
         found = {rule["rule"]: rule["verdict"] for rule in result["rules"]}
         if "not tried" in found.values():

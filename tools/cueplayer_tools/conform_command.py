@@ -82,7 +82,8 @@ def _tell_how_long(peer: Peer, cases: list[Named], tries: int, settle: int) -> N
     """Some minutes without a word would look like a fault."""
     at_a_time = min(len(peer.universes), len(cases))
     count = count_of(len(cases), "case") + (" once more" if tries > 1 else "")
-    told = f"{count}, {at_a_time} at a time, about {seconds_of(peer, cases, settle):.0f} s"
+    seconds = max(1, round(seconds_of(peer, cases, settle)))
+    told = f"{count}, {at_a_time} at a time, about {seconds} s"
     _warn(told)
 
 
