@@ -13,6 +13,7 @@ import time
 import uuid
 from pathlib import Path
 
+from machine import Late
 from program import run, text
 from tooling import PATIENCE, Started, wait_for
 from wire import SLOT_1, ReceiverTest
@@ -36,6 +37,7 @@ SHOW = text(
 
 
 NO_WATCH = "the program has no word watch"
+TOO_LATE = "too late: nothing was sent"
 
 
 @functools.cache
@@ -101,8 +103,11 @@ class Page:
 
         try:
             wait_for(holds, expected)
-        except AssertionError as late:
-            raise AssertionError(f"{expected} in {self.state}") from late
+        except AssertionError as missed:
+            # A press that a busy machine brings too late is refused, as it should be.
+            is_late = any(TOO_LATE in told for told in self.notices())
+            kind = Late if is_late else AssertionError
+            raise kind(f"{expected} in {self.state}") from missed
         return self.state
 
     def notices(self):
