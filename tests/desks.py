@@ -46,6 +46,14 @@ def watches():
     return b"watch" in run("--help").out
 
 
+class Newest(dict):
+    """The newest event of each kind; one that has not come yet is awaited."""
+
+    def __missing__(self, kind):
+        wait_for(lambda: kind in self, f"an event {kind}")
+        return self[kind]
+
+
 class Page:
     """An open page: the newest event of each kind, read as they come."""
 
@@ -59,7 +67,7 @@ class Page:
         kept = {} if cookie is None else {"Cookie": cookie}
         self.connection.request("GET", self.path + "events", headers=kept)
         self.answer = self.connection.getresponse()
-        self.newest = {}
+        self.newest = Newest()
         # By how much the desk's clock is ahead of this one's, in milliseconds. An event that took
         # long to come says too little, so the greatest counts.
         self.ahead = None
