@@ -161,7 +161,7 @@ class Leads(FollowTest):
     def test_lock(self):
         """No other console begins under the CID of a backup that follows."""
         _, backup = self.write_and_follow("0 tick")
-        words = ["play", backup.show, "--to", self.to, "--cid", BACKUP]
+        words = ["live", backup.show, "--to", self.to, "--cid", BACKUP]
         second = subprocess.run(
             [PROGRAM, *words], input=b"0 tick\n", capture_output=True, timeout=PATIENCE
         )
