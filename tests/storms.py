@@ -1,5 +1,5 @@
-"""What a storm is, worked out anew from docs/PROVED.md and docs/FORMATS.md, slowly: step by step,
-with the second reader's consoles and receivers."""
+"""What a storm is, worked out anew from docs/ASSURANCE.md and docs/FORMATS.md, slowly: step by
+step, with the second reader's consoles and receivers."""
 
 import random
 from typing import NamedTuple

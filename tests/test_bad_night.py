@@ -14,7 +14,9 @@ SECONDS = os.environ.get("BAD_NIGHT_SECONDS", "60")
 
 class BadNight(unittest.TestCase):
     def test_bad_night(self):
-        """No tick and no press is late, no packet is off its place, and the streams end."""
+        """Stalls, floods, slow pages, other sources and a link that goes down, for a minute at
+        sixteen universes: no tick and no press is late, no packet is off its place, and the streams
+        end."""
         own_network(self)
         words = [sys.executable, TOP / "tests/bad_night.py", "--seconds", SECONDS]
         done = subprocess.run(words, capture_output=True, text=True, timeout=float(SECONDS) + 120)

@@ -16,7 +16,7 @@ from cueplayer_tools.conform.captured import write_captures
 from cueplayer_tools.conform.diagnoses import diagnoses_of
 from cueplayer_tools.conform.estimate import seconds_of
 from cueplayer_tools.conform.junit import junit
-from cueplayer_tools.conform.pcapng import Frame, capture_of
+from cueplayer_tools.captures.writing import Frame, capture_of
 from cueplayer_tools.conform.peers import SteppedClock
 from cueplayer_tools.conform.report import Finding, Result, RuleFound, rules_found
 from cueplayer_tools.conform.script import Datagram, Look

@@ -13,11 +13,16 @@ import re
 import resource
 import signal
 import subprocess
+import sys
 from typing import NamedTuple
 
+import test_refused_growths
 from program import TOP
-from test_proved import PAGE, all_calls, rows
 from test_refused_growths import Growths
+
+sys.path.insert(0, str(TOP / "dev"))
+
+from generators.calls import all_calls  # noqa: E402  (dev/ is on the path)
 
 
 class Tested(NamedTuple):
@@ -70,31 +75,32 @@ TESTED = {
         ("rehearse_text",), ("devices_fail::each_device_fails", "rows::rehearse_basic")
     ),
 }
-# Public calls whose growths are refused in the program alone, and the test that refuses them.
+# Public calls whose growths are refused in the program alone, and the test of RefusedGrowths that
+# refuses them.
 IN_THE_PROGRAM = {
-    "weigh": "test_refused_growths.RefusedGrowths.test_live",
-    "Name::new": "test_refused_growths.RefusedGrowths.test_live",
-    "first_bytes": "test_refused_growths.RefusedGrowths.test_check",
-    "open": "test_refused_growths.RefusedGrowths.test_play",
-    "read_words": "test_refused_growths.RefusedGrowths.test_words",
-    "read_or_explain": "test_refused_growths.RefusedGrowths.test_words",
-    "lock_path": "test_refused_growths.RefusedGrowths.test_live",
-    "take_cid_lock": "test_refused_growths.RefusedGrowths.test_live",
-    "check_fit": "test_refused_growths.RefusedGrowths.test_targets",
-    "name_on": "test_refused_growths.RefusedGrowths.test_live",
-    "process_in_list": "test_refused_growths.RefusedGrowths.test_record_in_use",
-    "check_show": "test_refused_growths.RefusedGrowths.test_check",
-    "look_at": "test_refused_growths.RefusedGrowths.test_look",
-    "show_slots": "test_refused_growths.RefusedGrowths.test_slots",
-    "explain_show": "test_refused_growths.RefusedGrowths.test_explain",
-    "list_cues": "test_refused_growths.RefusedGrowths.test_cues",
-    "rehearse_show": "test_refused_growths.RefusedGrowths.test_rehearse",
-    "watch_lines": "test_refused_growths.RefusedGrowths.test_watch",
-    "live_name": "test_refused_growths.RefusedGrowths.test_live",
-    "new_night": "test_refused_growths.RefusedGrowths.test_live",
-    "open_night": "test_refused_growths.RefusedGrowths.test_live",
-    "tell_night_start": "test_refused_growths.RefusedGrowths.test_live",
-    "suitable_show": "test_refused_growths.RefusedGrowths.test_targets",
+    "weigh": "test_live",
+    "Name::new": "test_live",
+    "first_bytes": "test_check",
+    "open": "test_play",
+    "read_words": "test_words",
+    "read_or_explain": "test_words",
+    "lock_path": "test_live",
+    "take_cid_lock": "test_live",
+    "check_fit": "test_targets",
+    "name_on": "test_live",
+    "process_in_list": "test_record_in_use",
+    "check_show": "test_check",
+    "look_at": "test_look",
+    "show_slots": "test_slots",
+    "explain_show": "test_explain",
+    "list_cues": "test_cues",
+    "rehearse_show": "test_rehearse",
+    "watch_lines": "test_watch",
+    "live_name": "test_live",
+    "new_night": "test_live",
+    "open_night": "test_live",
+    "tell_night_start": "test_live",
+    "suitable_show": "test_targets",
 }
 # Calls that take no memory once something is open: tests of them that ask for as much as one that
 # only opens it.
@@ -149,6 +155,13 @@ def tests_of(place):
     return [name.removeprefix(module) for name in names if name.startswith(module)]
 
 
+def source_of(place):
+    """The text of a module of tests, with that of the modules inside it."""
+    crate, _, module = place.partition("::")
+    files = (TOP / "crates" / crate / "src/tests").rglob("*.rt")
+    return "".join(file.read_text() for file in files if module in (file.stem, file.parent.name))
+
+
 def tested_places():
     """The modules of tests, each after its crate of tests."""
     modules = (TOP / "crates").glob("test_*/src/tests/*.rt")
@@ -190,23 +203,23 @@ class CrateGrowths(Growths):
         return growths
 
     def test_calls(self):
-        """The list has each public call that can answer want of memory, and docs/PROVED.md names
-        one of its tests beside it."""
-        calls = [call for calls in all_calls().values() for call in calls]
-        growing = {call.name(): call.said for call in calls if call.may_grow()}
-        listed = {name: place for place, tested in TESTED.items() for name in tested.calls}
+        """Each public call that can answer want of memory is listed, with tests that are there."""
+        growing = [
+            call.name() for calls in all_calls().values() for call in calls if call.may_grow()
+        ]
+        listed = [name for tested in TESTED.values() for name in tested.calls]
         self.assertEqual(sorted(growing), sorted([*listed, *IN_THE_PROGRAM]))
-        beside = {said: only_tested for _, said, (_, only_tested) in rows(PAGE.read_text())}
-        for name, test in IN_THE_PROGRAM.items():
-            self.assertIn(f"`{test}`", beside[growing[name]])
-        for name, place in listed.items():
-            with self.subTest(name):
-                crate, module = place.split("::")
-                named = re.findall(rf"`{crate}::tests::{module}::([\w:]+)`", beside[growing[name]])
-                self.assertTrue(set(named) & set(TESTED[place].tests), beside[growing[name]])
+        for place, tested in TESTED.items():
+            text = source_of(place)
+            for test in tested.tests:
+                with self.subTest(place, test=test):
+                    self.assertIn(f"fn {test.rpartition('::')[2]}(rt: ", text)
+        for test in IN_THE_PROGRAM.values():
+            self.assertTrue(hasattr(test_refused_growths.RefusedGrowths, test))
 
     def test_growths(self):
-        """Where a growth is refused the call answers that, and the test passes."""
+        """Each allocation of a call is refused in turn: the call answers that, and its test
+        passes."""
         for place in built_programs(self, sorted(TESTED)):
             for test in TESTED[place].tests:
                 with self.subTest(place=place, test=test):
@@ -215,7 +228,8 @@ class CrateGrowths(Growths):
                     self.assertGreater(self.assertEachRefused(place, test, may_fail), 0)
 
     def test_no_growth_once_open(self):
-        """Nor one that would be given: the growths are counted, and none is refused."""
+        """An open desk and a receiver ask for no memory, though it would be given: the growths are
+        counted, and none is refused."""
         for place in built_programs(self, sorted(OPENED)):
             opened, tests = OPENED[place]
             counted = {}
@@ -226,7 +240,8 @@ class CrateGrowths(Growths):
             self.assertEqual({counted[opened]}, set(counted.values()), counted)
 
     def test_other_tests(self):
-        """Nothing falls, and nothing hangs."""
+        """Each allocation of all other tests of the crates is refused in turn: nothing falls, and
+        nothing hangs."""
         for place in built_programs(self, tested_places()):
             named = TESTED[place].tests if place in TESTED else ()
             for test in sorted(set(tests_of(place)) - {*named, *LEFT_OUT.get(place, ())}):

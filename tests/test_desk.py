@@ -106,7 +106,7 @@ class Playback(DeskTest):
         again.wait(current="1.5", masters={"sub 1": 255})
 
     def test_page_that_never_reads(self):
-        """It delays neither the light nor other pages."""
+        """A page that never reads delays neither the light nor other pages."""
         _, address = self.begin()
         page = Page(self, address)
         host, port = page.host.split(":")
@@ -215,7 +215,8 @@ class Ends(DeskTest):
         self.assertTrue(self.came()[-1][OPTIONS] & TERMINATED)
 
     def test_desk_that_dies(self):
-        """The light stays as it is, and nobody sends beside it under its name."""
+        """A desk that is killed: the light stays as it is, and nobody sends beside it under its
+        name."""
         desk, page = self.open_desk()
         page.command("sub 1 50")
         self.wait_for_level(128)
@@ -314,8 +315,8 @@ class Beside(DeskTest):
 
     @unittest.skipUnless(watches(), NO_WATCH)
     def test_other_sources(self):
-        """Each is named as long as it is heard; where more come than a receiver has room for, that
-        is said."""
+        """Other sources are named as long as they are heard; where more come than a receiver has
+        room for, that is said."""
         to = f"127.0.0.1:{free_port()}"
         _, page = self.open_desk("--grid", to=to)
         host, port = to.split(":")
@@ -359,7 +360,7 @@ class Beside(DeskTest):
 
     @unittest.skipUnless(watches(), NO_WATCH)
     def test_watch_that_ends(self):
-        """The page says that the levels are not received; the light goes on."""
+        """`watch` is killed: the page says that the levels are not received; the light goes on."""
         to = f"127.0.0.1:{free_port()}"
         desk, page = self.open_desk("--grid", to=to)
         wait_for(lambda: page.newest.get("levels", {}).get("slots"), "levels")
@@ -591,7 +592,8 @@ class Cid(DeskTest):
         self.assertEqual((CID, []), self.console(self.folder))
 
     def test_cannot_be_kept(self):
-        """Where there is no room for it, or something else is there, that is told in one line."""
+        """The CID cannot be kept: where there is no room for it, or something else is there, that
+        is told in one line."""
         home = self.file("home", b"")
         cid, told = self.console(home)
         why = f"desk: cannot keep a CID in {home}/cueplayer/cid: Not a directory; "

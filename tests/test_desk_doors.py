@@ -81,6 +81,8 @@ class DoorTest(DeskTest):
 
 
 class Guests(DoorTest):
+    """Requests from elsewhere: without a session or of another origin they do nothing."""
+
     def test_pin(self):
         """Without it there is only the page that asks for it; with it the session plays."""
         desk, page, door = self.open_desk()
@@ -132,7 +134,7 @@ class Guests(DoorTest):
         return guest.newest["show"]["role"], guest.newest["show"]["here"]
 
     def test_wrong_pins(self):
-        """Five lock the address for a minute, which the desk tells; sessions go on."""
+        """Five wrong PINs lock the address for a minute, which the desk tells; sessions go on."""
         desk, page, door = self.open_desk()
         door.enter(door.play)
         kept, door.cookie = door.cookie, None
@@ -209,7 +211,7 @@ class Guests(DoorTest):
         self.assertEqual(204, door.press(page, "go", **own))
 
     def test_many_connections(self):
-        """However many come, and hold their requests back, presses of both doors are taken."""
+        """A thousand connections that hold their requests back: presses of both doors are taken."""
         _, page, door = self.open_desk()
         door.enter(door.play)
         with contextlib.ExitStack() as held:
@@ -507,7 +509,8 @@ class PinsOfADesk(unittest.TestCase):
             pins.enter(pins.pins[Role.PLAY], "10.0.0.1")
 
     def test_many_addresses(self):
-        """Of all addresses together no more are tried than are few; the memory is bounded."""
+        """Wrong PINs of a thousand addresses: of all together no more are tried than are few; the
+        memory is bounded."""
         pins, now = Pins(), [0.0]
         with mock.patch.object(desk_pins.time, "monotonic", lambda: now[0]):
             told = [self.wrong(pins, f"10.0.{at // 250}.{at % 250}") for at in range(1_000)]

@@ -62,7 +62,8 @@ class Desk(DeskFolderTest):
         self.assertEqual(8000, one.wait(current="2")["fade"]["whole"])
 
     def test_desk_is_killed(self):
-        """The light does not notice, and the next desk takes hold of the night where it is."""
+        """The desk is killed: the light does not notice, and the next desk takes hold of the night
+        where it is."""
         self.begin_night()
         desk, page = self.desk()
         page.command("go")
@@ -85,7 +86,8 @@ class Desk(DeskFolderTest):
         self.assertEqual((0, ["ok", "cue 1"]), self.without_moments("go"))
 
     def test_live_is_killed(self):
-        """The pages tell it, and show the state again; the press after is taken."""
+        """`live` is killed: the pages tell it, and show the state again; the press after is
+        taken."""
         self.begin_night()
         _, page = self.desk()
         page.command("go")
@@ -160,7 +162,7 @@ class Desk(DeskFolderTest):
         page.wait(status=0)
 
     def test_live_that_stands_still(self):
-        """The keeper ends it; what is not read is taken back, and told."""
+        """`live` stands still: the keeper ends it; what is not read is taken back, and told."""
         self.begin_night()
         self.spare()
         _, page = self.desk()

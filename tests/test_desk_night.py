@@ -144,6 +144,8 @@ class Places(StubTest):
 
 
 class MissingReplies(StubTest):
+    """`live` says that replies were dropped: the state is read again."""
+
     LOST = "2 replies of live were lost; the state is read again"
 
     def test_replies_dropped(self):
@@ -220,6 +222,8 @@ class MissingReplies(StubTest):
 
 
 class OtherLines(StubTest):
+    """Somebody else hands lines to the same `live`: the page shows what they did."""
+
     def test_answer_to_another(self):
         """An answer to a line that was not handed on here has the state read again."""
         self.begin_night()

@@ -109,7 +109,7 @@ class DeskPage(DeskBrowserTest):
         again.wait("document.getElementById('current').textContent === '1.5 half past'")
 
     def test_press_without_an_answer(self):
-        """It is told after a second, and never carried out."""
+        """A press without an answer is told after a second, and never carried out."""
         desk, page, state = self.shown_page()
         stand_still(desk.process.pid)
         page.press(" ", "Space", " ")

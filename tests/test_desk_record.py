@@ -295,6 +295,7 @@ class Names(FolderTest):
             for expected in ("", "-2", "-3"):
                 made = desk_record.new_record("show.asc")
                 self.assertEqual(f"show-2026-11-30T193005{expected}.play", made.name)
+                made.unlink()
                 made.symlink_to("nowhere")
 
     def test_folder(self):

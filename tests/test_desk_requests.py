@@ -105,7 +105,8 @@ class Requests(DeskTest):
             self.assertEqual("here", request.headers["Host"])
 
     def test_damaged(self):
-        """Whatever comes is a request, no request, or not whole; nothing else is raised."""
+        """5,000 damaged requests: whatever comes is a request, no request, or not whole; nothing
+        else is raised."""
         chance = random.Random(38)
         whole = (
             b"POST /x HTTP/1.1\r\nHost: here\r\nOrigin: http://here\r\nDesk-Time: 1\r\n"

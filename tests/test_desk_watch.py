@@ -12,6 +12,8 @@ THIRD = CID[:-1] + "3"
 
 
 class Lines(unittest.TestCase):
+    """The other sources on a universe, by the lines of `watch`."""
+
     def setUp(self):
         self.watched = Watched(uuid.UUID(CID))
 

@@ -46,6 +46,8 @@ class Record(DeskTest):
 
 @unittest.skipUnless(resumes(), NO_RESUME)
 class BrokenOff(DeskTest):
+    """`live` is killed under a desk with a record: a button takes the night up."""
+
     def test_taken_up(self):
         """It goes on where it was: the cue, the masters, and the stream."""
         desk, page = self.open_desk("--record", self.folder / "night.play")
@@ -101,6 +103,8 @@ class BrokenOff(DeskTest):
 
 @unittest.skipUnless(resumes(), NO_RESUME)
 class BrokenOffFolder(DeskFolderTest):
+    """All processes of a folder's night are killed: the desk goes on with it."""
+
     def test_taken_up(self):
         """Where nobody keeps the night any more the desk goes on with it, as `start` does."""
         self.begin_night()

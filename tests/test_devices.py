@@ -204,6 +204,7 @@ class Outputs(ProgramTest):
                 self.assertEqual((5, DEVICE_FAULT), (done.returncode, messages_in(done.stderr)))
 
     def test_full_output(self):
+        """An output whose disk is full is a device fault."""
         with open("/dev/full", "wb") as full:
             self.assertOutputFails(stdout=full)
 
@@ -225,10 +226,12 @@ class Outputs(ProgramTest):
         self.assertOutputFails(stdout=writer)
 
     def test_closed_output(self):
+        """Standard output that is closed from the start is a device fault."""
         self.assertOutputFails(preexec_fn=lambda: os.close(1))
 
     def test_closed_input_of_play(self):
-        """It is a fault, and nothing that is opened takes its place."""
+        """Standard input that is closed from the start is a fault of `play`, and nothing that is
+        opened takes its place."""
         *_, (words, _) = self.jobs()
         done = subprocess.run(
             [PROGRAM, *words], capture_output=True, timeout=60, preexec_fn=lambda: os.close(0)

@@ -67,7 +67,8 @@ class Play(FailingCalls):
         return out, [sent for k, sent in enumerate(KEPT_ALIVE.packets) if k not in lost]
 
     def test_each_send_fails(self):
-        """The others are sent as if nothing had failed."""
+        """Each send in turn fails, for each reason: its number is used, and the others are sent as
+        if nothing had failed."""
         for error in NETWORK_ERRORS:
             for k in range(6):
                 with self.subTest(errno.errorcode[error], k=k):
@@ -77,6 +78,7 @@ class Play(FailingCalls):
                     self.assertEqual(packets, came)
 
     def test_no_send_passes(self):
+        """Every send fails: no line is lost because of that."""
         out, _ = self.kept_alive(*range(6))
         outcome, came = self.plays(TICKS, ("sendto", 1, 99, errno.ENETUNREACH))
         self.assertEqual((Outcome(5, out, b"lost 6\n"), []), (outcome, came))
@@ -104,8 +106,8 @@ class Play(FailingCalls):
         self.assertEqual([*packets[:2], KEPT_ALIVE.packets[2][:-1], *packets[2:]], came)
 
     def test_each_device_fails(self):
-        """Row `five_second_fade`: what was printed and sent before the read or write that
-        failed."""
+        """Each read and each write fails: what was printed and sent before stays, by row
+        `five_second_fade`."""
         outcome, came = self.plays(LINES[:4], ("read", 2, 2, errno.EIO))
         self.assertEqual(Outcome(5, text(*PRINTED[:4]), DEVICE_FAULT), outcome)
         self.assertEqual(FADE.packets[:3], came)
@@ -179,7 +181,8 @@ class Prints(FailingCalls):
         return write - 1
 
     def test_each_device_fails(self):
-        """`check`, `look`, `slots`, and `rehearse`, which prints through a buffer."""
+        """Each write of `check`, `look`, `slots` and `rehearse`, which prints through a buffer,
+        fails: what was printed is a beginning of the text."""
         self.assertEqual(
             1, self.assertEachWriteFails(["check", self.show], b"", counts(12, 2, 1, 0, 2))
         )
@@ -197,7 +200,7 @@ class Prints(FailingCalls):
         self.assertGreater(self.assertEachWriteFails(words, b"", whole), 1)
 
     def test_each_read_fails(self):
-        """Standard input: interrupted it is asked again, and else it is a fault."""
+        """A read of a show that fails: interrupted it is made again, and else it is a fault."""
         whole = counts(12, 2, 1, 0, 2)
         for read in (1, 2):
             outcome = self.run_failing(["check", "-"], S1, ("read", read, read + 2, errno.EINTR))
@@ -246,7 +249,7 @@ class Listen(FailingCalls):
         return listener.close()
 
     def test_each_device_fails(self):
-        """Each receive and each write: what was printed before it stays."""
+        """Each receive and each write fails: what was printed before it stays."""
         lines = THREE.splitlines(keepends=True)
         for call, calls in (("recvfrom", 3), ("write", 4)):
             for n in range(1, calls + 1):
@@ -256,10 +259,12 @@ class Listen(FailingCalls):
                         self.assertEqual((5, out, DEVICE_FAULT), self.listen((call, n, n, error)))
 
     def test_interrupted_calls(self):
+        """A receive or a write that a signal interrupts is made again."""
         for call in ("recvfrom", "write"):
             self.assertEqual((0, THREE, b""), self.listen((call, 1, 2, errno.EINTR)))
 
     def test_output_closed_in_the_middle(self):
+        """The datagram at whose reply nobody reads any more ends the run; no signal does."""
         listener = Listener(count=3)
         self.addCleanup(listener.abandon)
         listener.send(DATAGRAMS[0])
@@ -280,7 +285,8 @@ class Live(FailingCalls):
         return status, without_moments(out), err, self.came()
 
     def test_each_send_fails(self):
-        """The tick is printed, and the night goes on; the others come."""
+        """Each send in turn fails, for each reason: the tick is printed, and the night goes on; the
+        others come."""
         for error in NETWORK_ERRORS:
             for k in range(3):
                 with self.subTest(errno.errorcode[error], k=k):
@@ -295,6 +301,7 @@ class Live(FailingCalls):
                     self.assertGreaterEqual(len(numbers), 3)
 
     def test_interrupted_calls(self):
+        """A send, a read, a write or a wait that a signal interrupts is made again."""
         for call in ("sendto", "write", "read", "epoll_wait"):
             with self.subTest(call):
                 status, out, err, came = self.play_live((call, 1, 2, errno.EINTR))
@@ -312,15 +319,16 @@ class Live(FailingCalls):
             self.assertEqual([TERMINATED] * 3, [each[OPTIONS] for each in came[-3:]])
 
     def test_reads_that_fail(self):
-        """Nothing there yet is no fault; an input that cannot be read any more has ended."""
+        """A read that fails: nothing there yet is no fault; an input that cannot be read any more
+        has ended."""
         status, out, err, _ = self.play_live(("read", 1, 5, errno.EAGAIN))
         self.assertEqual((0, ["ok"] * 3, b""), (status, out, err))
         status, out, err, _ = self.play_live(("read", 1, 1, errno.EIO))
         self.assertEqual((0, ["ok"] * 2, b""), (status, out, err))
 
     def test_input_cut(self):
-        """In the middle of a line: what is there of it is a line, and the end of the night is
-        given."""
+        """An input that ends in the middle of a line: what is there of it is a line, and the end of
+        the night is given."""
         typed = b"sub 1 FL\n"
         for length in range(len(typed)):
             with self.subTest(typed[:length]):

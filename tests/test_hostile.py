@@ -29,6 +29,9 @@ def whole_steps(start, target, rate, elapsed):
 @unittest.skipUnless(hasattr(os, "pidfd_open") and hasattr(os, "memfd_create"), "no Linux")
 class Hostile(unittest.TestCase):
     def test_cases(self):
+        """20,000 changed shows, lines, scripts and datagrams get the answers of PROFILE and
+        FORMATS: with bytes flipped, lines cut, doubled and swapped, numbers at their bounds, odd
+        spellings."""
         failure, done, ran = first_failure(CASES, SEED)
         print(f"    {done} cases in {ran} runs")
         if failure:
@@ -88,8 +91,9 @@ class HostileLive(unittest.TestCase):
             return left, tuple(datagrams_at(socket))
 
     def test_cases(self):
-        """The record is the night: what is shown and sent is what the pages say of it. It has the
-        lines that are commands, in order, and why others are none is told."""
+        """400 random lines, typed in pieces: the record is the night. What is shown and sent is
+        what the pages say of it; it has the lines that are commands, in order, and why others are
+        none is told."""
         r = random.Random(SEED)
         lines = [line for line, _ in zip(self.random_lines(r), range(400))]
         left, came = self.play_lines(r, lines)

@@ -30,7 +30,7 @@ def sources(top):
     found = {
         f"lib/cueplayer/{name}": name for name in (*SCRIPTS, "dist/cueplayer", "dist/PROVENANCE")
     }
-    found |= {f"lib/cueplayer/tools/{tool}": f"tools/{tool}" for tool in TOOLS}
+    found |= {f"lib/cueplayer/tools/{tool}": f"tools/{tool}" for tool in (*TOOLS, "terminal")}
     for name in SCRIPTS:
         found[f"share/bash-completion/completions/{name}"] = f"completion/{name}.bash"
     found |= {

@@ -9,14 +9,18 @@ import unittest
 from pathlib import Path
 
 HERE = Path(__file__).resolve().parent
-PARTS = ("run", "lanes.py", "tally.py", "machine.py", "program.py")
+PARTS = ("run", "lanes.py", "listing.py", "tally.py", "machine.py", "program.py")
 SAMPLES = """
+'''Samples of tests. They are few.'''
 import os, unittest
 from pathlib import Path
 from machine import Late
 
 class Good(unittest.TestCase):
-    def test_first(self): pass
+    '''What is well: test_samples.Good.'''
+    def test_first(self):
+        '''The first
+        of two. It passes.'''
     def test_second(self): pass
 
 class Bad(unittest.TestCase):
@@ -89,6 +93,18 @@ class Runner(unittest.TestCase):
     def test_words(self) -> None:
         self.assertEqual((0, "2 passed, 0 failed"), self.last("Good"))
         self.assertEqual((1, "0 passed, 0 failed"), self.last("nothing of this name"))
+
+    def test_list(self) -> None:
+        """Each test has the first sentence about it, its class or its module; none is run."""
+        first = "test_samples.Good.test_first: The first of two."
+        second = "test_samples.Good.test_second: What is well: test_samples.Good."
+        status, lines = self.run_tests("--list")
+        self.assertEqual((0, 7), (status, len(lines)))
+        self.assertEqual([first, second], [line for line in lines if "Good" in line])
+        self.assertIn("test_samples.Dies.test_end: Samples of tests.", lines)
+        self.assertEqual((0, [first]), self.run_tests("--list", "OF TWO"))
+        self.assertEqual((0, [first, second]), self.run_tests("--list", "first", "well"))
+        self.assertEqual((1, []), self.run_tests("--list", "nothing of this name"))
 
     def test_first(self) -> None:
         """It ends at the first failure, and tells what was well until then."""

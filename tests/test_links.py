@@ -6,7 +6,8 @@ from pathlib import Path
 
 from program import TOP
 
-PAGES = [*sorted(TOP.glob("*.md")), *sorted((TOP / "docs").glob("*.md"))]
+PLACES = ("*.md", "docs/*.md", "crates/*/README.md")
+PAGES = [page for place in PLACES for page in sorted(TOP.glob(place))]
 FENCED = re.compile(r"^ *```.*?^ *```$", re.MULTILINE | re.DOTALL)
 LINK = re.compile(r"\]\(([^)\s]+)\)")
 

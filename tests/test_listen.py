@@ -104,7 +104,8 @@ class Listen(ProgramTest):
         self.assertEqual((0, b"slots 1:64\n", b""), listener.close())
 
     def test_sources(self):
-        """Four sources, and a fifth; of equal priority the greatest level of each slot shows."""
+        """Four sources, and a fifth that is ignored; of equal priority the greatest level of each
+        slot shows."""
         datagrams = [
             packet(1, {1: 10 * n, n: 200 + n, 512: 255}, cid=f"{CID[:-1]}{n}") for n in range(1, 6)
         ]

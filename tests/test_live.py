@@ -264,6 +264,7 @@ class Live(LiveTest):
         )
 
     def test_bytes_one_by_one(self):
+        """Commands that come byte by byte are taken whole."""
         night = self.begin_night()
         self.type_in(night, *(bytes([byte]) for byte in b"sub 1 FL\n"), pause=0.03)
         self.assertEqual(["ok"], without_moments(night.stdout.readline()))
@@ -388,7 +389,7 @@ class Live(LiveTest):
                 self.assertEqual([], self.came())
 
     def test_record_on_a_full_disk(self):
-        """It is told once, and the night goes on."""
+        """A record on a full disk is told once, and the night goes on."""
         outcome = run(*self.words("--record", "/dev/full"), stdin=b"go\nend\n")
         self.assertEqual(
             (0, ["ok", "cue 1", "ok", "ok"]), (outcome.status, without_moments(outcome.out))
@@ -489,6 +490,7 @@ class Live(LiveTest):
         self.assertEqual([], self.came())
 
     def test_input_closed_from_the_start(self):
+        """Standard input that is closed from the start is a device fault."""
         night = subprocess.run(
             [PROGRAM, *self.words()],
             preexec_fn=lambda: os.close(0),
@@ -526,8 +528,8 @@ class Lock(LiveTest):
     SPELLINGS = (CID, CID.upper(), CID.replace("-", ""), f"{{{CID}}}", f"urn:uuid:{CID}")
 
     def test_second_console(self):
-        """However the CID is spelled, it does not begin: nothing is sent, and no record is
-        made."""
+        """A second console of a CID, however that is spelled, does not begin: nothing is sent, and
+        no record is made."""
         first, record = self.begin_night(), self.folder / "night.play"
         self.type_line(first, b"back\n", "refused AtStart")
         self.came()
@@ -566,7 +568,7 @@ class Lock(LiveTest):
             self.assertEqual((0, b""), (self.end_night(night).status, b""))
 
     def test_console_that_died(self):
-        """The lock is free at once, also where the one that held it was killed."""
+        """The lock of a console that died is free at once, also where it was killed."""
         for _ in range(3):
             night = self.begin_night()
             self.type_line(night, b"back\n", "refused AtStart", pause=0)

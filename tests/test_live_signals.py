@@ -18,6 +18,8 @@ def take_terminal():
 
 
 class Signals(LiveTest):
+    """Control-C, control-Z and a window that is closed leave the light on; SIGTERM ends it."""
+
     PROGRAM = TOP / "cueplayer"
 
     def setUp(self):

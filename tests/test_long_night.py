@@ -194,6 +194,9 @@ class LongNight(LiveTest):
         return heard.hexdigest()
 
     def test_night(self):
+        """Two minutes of floods, stalls and readers that die, on sixteen universes: no tick, press
+        or packet is late or off its place. Each press is recorded at its moment, and `play` of the
+        record sends the same."""
         self.begin()
         self.play()
         self.end()

@@ -96,7 +96,8 @@ class Bytes(unittest.TestCase):
                 self.assertEqual(expected, pieces)
 
     def test_by_chance(self):
-        """Whatever comes is a command, or it is refused, or nothing; the next press is taken."""
+        """5,000 damaged MIDI messages: whatever comes is a command, or it is refused, or nothing;
+        the next press is taken."""
         chance, reader = random.Random(7), MidiReader()
         whole = [data for data, _ in (*ASKED, *REFUSED)]
         for _ in range(5_000):

@@ -10,7 +10,7 @@ import time
 import unittest
 
 from folders import NIGHT, FolderNightTest, resumes
-from tooling import PATIENCE, stand_still, wait_for
+from tooling import PATIENCE, run_tool, stand_still, wait_for
 from wire import SEQUENCE, terminal
 
 NO_RESUME = "the program does not know --resume"
@@ -37,9 +37,10 @@ class Goes(FolderNightTest):
         """What is in it, and the words of `live`, with the whole path of the show."""
         self.begin_night()
         self.spare()
+        wait_for((self.night / ".record").exists, "the second name of the record")
         names = {path.name for path in self.night.iterdir()}
-        files = {"night", "show", "record", "replies", "in", "lock", "pid", "spare"}
-        self.assertEqual(files, names)
+        files = {"night", "show", "record", ".record", "replies", "in", "lock", "pid"}
+        self.assertEqual(files | {"spare"}, names)
         words = "\n".join(map(str, self.words)) + "\n"
         self.assertEqual(words, (self.night / "night").read_text())
         self.assertTrue((self.night / "in").is_fifo())
@@ -92,7 +93,7 @@ class Goes(FolderNightTest):
         self.assertEqual((0, ["where next 1 master 255"]), self.without_moments("where"))
 
     def test_live_is_killed(self):
-        """The spare goes on with its stream, at the same cue, at once; also the second time."""
+        """`live` is killed, twice: the spare goes on with its stream, at the same cue, at once."""
         self.begin_night()
         self.assertEqual((0, ["ok", "cue 1"]), self.without_moments("go"))
         numbers = self.wait_for_level(128)
@@ -203,7 +204,8 @@ class Goes(FolderNightTest):
         self.assertEqual(2, self.replies().count("record: another show"))
 
     def test_keeper_is_killed(self):
-        """`live` plays on and is commanded; the next keeper takes hold of it, and restarts it."""
+        """The keeper is killed: `live` plays on and is commanded; the next keeper takes hold of it,
+        and restarts it."""
         self.begin_night()
         live, keeper = self.number("pid"), self.kill("lock")
         wait_for(lambda: not self.is_there(keeper), "the keeper is gone")
@@ -240,7 +242,8 @@ class Goes(FolderNightTest):
         self.assertIn(f"takes hold of the night: live (process {live}) plays", out)
 
     def test_all_are_killed(self):
-        """The light goes, and `start` alone brings it back as it was, in the same stream."""
+        """`live`, its spare and its keeper are killed: the light goes, and `start` alone brings it
+        back as it was, in the same stream."""
         self.begin_night()
         self.without_moments("go")
         numbers = self.wait_for_level(128)
@@ -321,8 +324,30 @@ class Goes(FolderNightTest):
         self.assertNotIn(GO_ON, out)
         self.night = one
 
+    def test_same_cid_elsewhere(self):
+        """Each folder is asked that may have its lock, and a process that has none is seen: as of
+        one that was begun by a login, and another by a unit or a timer."""
+        for name in ("runtime", "another runtime"):
+            (self.folder / name).mkdir()
+        self.environment["XDG_RUNTIME_DIR"] = str(self.folder / "runtime")
+        self.begin_night()
+        live = self.number("pid")
+        one, self.night = self.night, self.folder / "another"
+        self.environment["XDG_RUNTIME_DIR"] = str(self.folder / "another runtime")
+        status, out, _ = self.run_script("start", *self.words)
+        self.assertEqual(5, status)
+        told = f"another console on this machine sends under this CID: process {live}\n"
+        self.assertIn(told, out)
+        desk = run_tool("desk", *self.words, env=self.environment)
+        self.assertEqual(1, desk.returncode)
+        self.assertIn(f"process {live} plays live under this CID already", desk.stderr)
+        self.night = one
+        self.kill_all()
+        self.assertEqual(0, self.run_script("start", "--background").status)
+
     def test_line_that_is_not_read(self):
-        """It is taken back after a second, and told: nothing is carried out later."""
+        """A line that `live` does not read is taken back after a second, and told: nothing is
+        carried out later."""
         self.begin_night()
         self.spare()
         live = self.number("pid")
@@ -337,7 +362,7 @@ class Goes(FolderNightTest):
         self.assertEqual((0, ["where next 1 master 255"]), self.without_moments("where"))
 
     def test_many_writers(self):
-        """The lines of many come whole, each once."""
+        """Nine writers at once: the lines of many come whole, each once."""
         self.begin_night()
         turns = [range(first, 256, 8) for first in range(8)]
 

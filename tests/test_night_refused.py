@@ -2,6 +2,8 @@
 in the cue in which it was."""
 
 import contextlib
+import ctypes
+import json
 import os
 import signal
 import time
@@ -11,10 +13,12 @@ from pathlib import Path
 from folders import FolderNightTest, resumes
 from program import text
 from restarts import head
-from tooling import stand_still, wait_for
+from tooling import wait_for
 
 from cueplayer_tools.cue_list import Cue, Show
 from cueplayer_tools.keeper.last_cue import cue_at_end
+from cueplayer_tools.keeper.pipes import RECORD
+from cueplayer_tools.keeper.states import state_of
 
 NO_RESUME = "the program does not know --resume"
 AGAIN = "live refused to begin, with status 4: the lines above say why; tried again each second"
@@ -24,10 +28,38 @@ FOLLOWED = text(
 )  # fmt: skip
 
 
+class Held:
+    """A process that is held as by a debugger. It goes on where the one that holds it ends."""
+
+    SEIZE, INTERRUPT, DETACH = 0x4206, 0x4207, 17
+
+    def __init__(self, number):
+        self.number, self.trace = number, ctypes.CDLL(None, use_errno=True).ptrace
+        self.trace.argtypes = [ctypes.c_long, ctypes.c_long, ctypes.c_void_p, ctypes.c_void_p]
+        if self.trace(self.SEIZE, number, None, None):
+            raise unittest.SkipTest(f"no ptrace here: {os.strerror(ctypes.get_errno())}")
+        self.trace(self.INTERRUPT, number, None, None)
+        wait_for(lambda: state_of(number) == "t", "it stands still")
+
+    def release(self):
+        self.trace(self.DETACH, self.number, None, None)
+
+
 class RefusedTest(FolderNightTest):
     def kill_all(self):
         super().kill_all()
         wait_for(lambda: not self.is_there(self.number("pid")), "live is gone")
+
+    def health(self):
+        """What `status --json` prints, whose status is that of its exit."""
+        status, out, err = self.run_script("status", "--json")
+        self.assertEqual(("", 1), (err, out.count("\n")))
+        told = json.loads(out)
+        self.assertEqual(status, told["status"])
+        return told
+
+    def wait_for_status(self, status):
+        return wait_for(lambda: (told := self.health())["status"] == status and told, str(status))
 
     def go(self, *cues):
         for cue in cues:
@@ -49,16 +81,20 @@ class RefusedTest(FolderNightTest):
         with contextlib.suppress(ProcessLookupError):
             os.kill(number, signal.SIGCONT)
 
-    def writer(self):
-        """The process that writes the record for `live`; the spare has one too."""
-        live = self.number("pid")
-        for each in Path("/proc").glob("[0-9]*/fd/1"):
+    def writer(self, pipe=RECORD):
+        """The process that writes what `live` gives into this pipe."""
+        place = f"/proc/{self.number('pid')}/fd/{pipe}"
+        for each in Path("/proc").glob("[0-9]*/fd/0"):
             with contextlib.suppress(OSError):
-                if os.path.samefile(each, self.night / "record"):
-                    told = (each.parents[1] / "status").read_text()
-                    if f"\nPPid:\t{live}\n" in told:
-                        return int(each.parts[2])
+                if os.path.samefile(each, place):
+                    return int(each.parts[2])
         return self.fail("no writer")
+
+    def stall(self, writer):
+        """Has it stand still as behind a disk, not as a signal does it; a call lets it go on."""
+        held = Held(writer)
+        self.addCleanup(held.release)
+        return held.release
 
 
 @unittest.skipUnless(resumes(), NO_RESUME)
@@ -114,8 +150,7 @@ class Refused(RefusedTest):
         self.begin_night()
         self.go(1)
         spare, live, writer = self.spare(), self.number("pid"), self.writer()
-        stand_still(writer)
-        self.addCleanup(self.go_on, writer)
+        go_on = self.stall(writer)
         killed = time.monotonic()
         os.kill(live, signal.SIGKILL)
         self.wait_for_reply("the record is still written for a live that is gone: the disk stalls")
@@ -124,7 +159,7 @@ class Refused(RefusedTest):
         self.assertTrue(self.is_there(spare))
         self.assertNotIn("goes on where it was", self.replies())
         self.came()
-        os.kill(writer, signal.SIGCONT)
+        go_on()
         self.wait_for_reply(rf"the spare \(process {spare}\) goes on where it was$")
         self.wait_for_level(128)
         self.assertEqual(spare, self.number("pid"))
@@ -147,7 +182,7 @@ class Anew(RefusedTest):
         self.came()
         status, out, _ = self.run_script("start", "--background", "--if-refused", "begin")
         self.assertEqual(0, status, out)
-        told = "record: line .*: the night begins anew in cue 3, its masters at full"
+        told = "record: line .*: the night starts again in cue 3, its masters at full"
         self.assertRegex(out, told)
         (kept,) = self.night.glob("record-refused-*")
         self.assertEqual(damaged, kept.read_bytes())
@@ -166,13 +201,14 @@ class Anew(RefusedTest):
         self.begin_night()
         self.go(1)
         self.spare()
-        with open(self.night / "record", "ab") as file:
-            file.write(b"garbage\n")
+        with open(self.night / "record", "r+b") as file:
+            file.write(b"?")
+        self.kill("spare")
         self.wait_for_reply("no spare stands by")
         self.wait_for_level(128)
         self.came()
         self.kill("pid")
-        self.wait_for_reply("the night begins anew in cue 1, its masters at full")
+        self.wait_for_reply("the night starts again in cue 1, its masters at full")
         self.wait_for_level(128)
         self.assertEqual((0, ["where cue 1 next 2 master 255"]), self.without_moments("where"))
 
@@ -190,7 +226,7 @@ class Anew(RefusedTest):
                     replies.write_bytes(b"")
                 status, out, _ = self.run_script("start", "--background", "--if-refused=begin")
                 self.assertEqual(0, status, out)
-                self.assertIn("the night begins anew in cue 3", out)
+                self.assertIn("the night starts again in cue 3", out)
                 self.spare()
 
     def test_words(self):

@@ -16,7 +16,7 @@ NO_RESUME = "the program does not know --resume"
 # For how long receivers hold the light, in milliseconds.
 HELD = 2500
 # By when, in seconds, a `live` that stands still is not ended yet.
-SOON = 0.8
+SOON = 0.4
 STANDS = r"live \(process {}\) stands still: it is ended, so that the night goes on$"
 
 
@@ -61,21 +61,35 @@ class Stands(RefusedTest):
         self.wait_for_reply(f"{told}goes on where it was$")
         self.assertFalse(self.is_there(live))
 
+    def test_spare_that_was_stopped(self):
+        """It is let go on where `live` dies, before receivers let go."""
+        live, spare, _ = self.begin_in_cue_1()
+        numbers = self.came_first + [each[SEQUENCE] for each in self.came()]
+        stand_still(spare)
+        killed = time.monotonic()
+        os.kill(live, signal.SIGKILL)
+        numbers += [each[SEQUENCE] for each in self.came(0)]
+        self.receiver.settimeout(30)
+        first = self.receiver.recv(1500)
+        in_time(took(killed, time.monotonic()), HELD, "from a kill to light")
+        self.assertNumbered([*numbers, first[SEQUENCE]])
+        self.wait_for_reply(rf".* the spare \(process {spare}\) goes on where it was$")
+
     def test_keeper_that_stood_still_too(self):
-        """It gives `live` a full second more: the whole machine may have stood still."""
+        """It gives `live` half a second more: the whole machine may have stood still."""
         live, _, keeper = self.begin_in_cue_1()
         for number in (live, keeper):
             self.keep_going(number)
         began = time.monotonic()
         stand_still(live)
         # It has seen by then that the record does not grow.
-        self.stay(0.3)
+        self.stay(0.2)
         stand_still(keeper)
         if time.monotonic() > began + SOON:
             raise Late("the keeper may have ended it before it was stopped itself")
         self.stay(1)
         os.kill(keeper, signal.SIGCONT)
-        self.stay(0.3)
+        self.stay(0.15)
         os.kill(live, signal.SIGCONT)
         self.stay(1.5)
         self.assertEqual((0, ["ok"]), self.without_moments("sub", "1", "H92"))
@@ -85,9 +99,7 @@ class Stands(RefusedTest):
     def test_record_that_stalls(self):
         """Whoever writes it waits for the disk: `live` plays on, and the spare stands by."""
         live, spare, _ = self.begin_in_cue_1()
-        writer = self.writer()
-        go_on = self.keep_going(writer)
-        stand_still(writer)
+        go_on = self.stall(self.writer())
         plays_on = rf"the record does not grow, and live \(process {live}\) plays on: the disk"
         self.wait_for_reply(f"{plays_on} stalls, or is slow; a spare waits for it$")
         self.assertEqual((0, ["ok"]), self.without_moments("sub", "1", "H92"))
@@ -96,22 +108,6 @@ class Stands(RefusedTest):
         self.wait_for_reply("the record grows again$")
         self.assertTrue(self.is_there(live) and self.is_there(spare))
         self.assertNotIn("stands still", self.replies())
-
-    def test_record_that_breaks_off(self):
-        """As on a full disk: `live` plays on, and no spare lights the stage behind its end."""
-        live, spare, _ = self.begin_in_cue_1()
-        os.kill(self.writer(), signal.SIGKILL)
-        plays_on = rf"the record does not grow, and live \(process {live}\) plays on: nothing"
-        self.wait_for_reply(f"{plays_on} writes it any more, as behind a full disk: no spare")
-        wait_for(lambda: not self.is_there(spare), "the spare is ended")
-        self.assertEqual((0, ["ok", "cue 2"]), self.without_moments("go"))
-        self.assertEqual(0, self.run_script("end").status)
-        self.wait_for_reply("the night has ended$")
-        self.came()
-        self.stay(1)
-        self.assertEqual([], self.came())
-        self.assertNotIn("stands still", self.replies())
-        self.assertNotIn("goes on where it was", self.replies())
 
     def test_spare_that_stands_still(self):
         """It would not go on: another takes its place."""

@@ -98,6 +98,8 @@ class SurroundingsTest(FolderNightTest):
 
 @unittest.skipUnless(resumes(), NO_RESUME)
 class Settings(SurroundingsTest):
+    """Locales, options of shells and of Python, tools that are missing, and closed streams."""
+
     @unittest.skipUnless(has_locale(COMMA), f"the locale {COMMA} is not on this machine")
     def test_decimal_comma(self):
         """Each command is answered, and the night goes on."""
@@ -170,6 +172,8 @@ class Settings(SurroundingsTest):
 
 
 class Files(SurroundingsTest):
+    """FIFOs in the place of a night's files: nobody waits for them."""
+
     def test_record_that_is_a_fifo(self):
         """Nobody waits for who would write there."""
         self.assertEqual(0, self.run_script("make", *self.words).status)

@@ -62,7 +62,8 @@ class Update(FolderNightTest):
         self.begin_in_cue_1()
         status, out, err = self.run_script("update", self.new)
         self.assertEqual((0, ""), (status, err))
-        self.assertIn(f"{self.new} is kept: the night begins anew with it at the next `start`", out)
+        told = "is kept: the night starts again with it at the next `start`"
+        self.assertIn(f"{self.new} {told}", out)
         self.assertIn("in cue 1, its masters at full", out)
         self.new.unlink()
         # Until then the show is the one that the night has, also for a spare.
@@ -79,7 +80,7 @@ class Update(FolderNightTest):
         self.receiver.settimeout(PATIENCE)
         first = self.receiver.recv(1500)
         came = time.time()
-        self.assertIn("the night begins anew in cue 1, its masters at full, with the updated", out)
+        self.assertIn("the night starts again in cue 1, its masters at full, with the updated", out)
         self.assertEqual({51}, {each[SLOT_1] for each in [first, *self.came()]})
         self.assertLessEqual(levels, {128})
         in_time(by_clock(halted, came), HELD, "from halt to light")

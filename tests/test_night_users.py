@@ -22,7 +22,8 @@ class Users(FolderNightTest):
         return {path.name: stat.S_IMODE(path.stat().st_mode) for path in paths}
 
     def assertClosed(self):
-        names = {"night", "show", "record", "replies", "in", "lock", "pid", "spare"}
+        names = {"night", "show", "record", ".record", "replies", "in", "lock", "pid", "spare"}
+        wait_for((self.night / ".record").exists, "the second name of the record")
         self.assertEqual({self.night.name: 0o700} | dict.fromkeys(names, 0o600), self.modes())
 
     def test_modes(self):

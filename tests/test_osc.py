@@ -225,7 +225,8 @@ class Lines(unittest.TestCase):
                 self.assertReadable(message(f"/cueplayer/{address}", tags=tag) + data)
 
     def test_damaged(self):
-        """Datagrams with bytes turned, cut out, doubled and put in, by chance."""
+        """20,000 datagrams with bytes turned, cut out, doubled and put in, by chance: each is a
+        command, or refused."""
         chance = random.Random(1138)
         whole = [datagram for datagram, _ in ASKED + REFUSED] + [bundle(GO, GREATEST_DOUBLE, GO)]
         for _ in range(20_000):
@@ -417,7 +418,7 @@ class Tool(ProgramTest):
         self.assertEqual("go", osc.out.next())
 
     def test_nothing_ends_it(self):
-        """What cannot be read is told, and the next press is taken."""
+        """A datagram that cannot be read is told, and the next press is taken."""
         osc, send = self.begin_tool()
         for datagram in (GREATEST_DOUBLE, b"", bytes(60_000), b"#bundle\0" * 5_000, GO[:-1]):
             send(datagram)

@@ -65,6 +65,8 @@ class Tablet:
 
 
 class Subscribers(DeskTest):
+    """Subscribers to what the desk shows: cut off, at once, and more than there is room for."""
+
     SHOW = SHOW.replace(b"! one", "! \N{LATIN SMALL LETTER O WITH DIAERESIS}ne".encode())
 
     def test_told(self):

@@ -20,6 +20,9 @@ WRONG = b"line refused: jump: no such command; help lists the commands\n"
 
 
 class OutputWriter(WriterTest):
+    """Standard output and error in files on a disk that stalls or is full: ticks come in time. So
+    they do where a writer, or the program beside it, is killed."""
+
     def setUp(self):
         super().setUp()
         self.out = self.folder / "replies of May"
@@ -177,7 +180,7 @@ class OutputWriter(WriterTest):
                 self.assertEqual(WRONG, messages_in(self.err.read_bytes()))
 
     def test_writer_that_is_killed(self):
-        """It is told, and the night goes on to its end."""
+        """A writer of an output that is killed is told, and the night goes on to its end."""
         with open(self.out, "wb") as out:
             night = self.begin_night(stdout=out)
         self.light(night, b"sub 1 FL\n", 128)
@@ -188,7 +191,7 @@ class OutputWriter(WriterTest):
         self.assertEqual(b"replies: device fault\n", night.stderr.read())
 
     def test_disk_that_is_full(self):
-        """It is told once, and the night goes on; what there was room for is there."""
+        """A full disk is told once, and the night goes on; what there was room for is there."""
 
         def limit():
             resource.setrlimit(resource.RLIMIT_FSIZE, (4096, 4096))

@@ -64,7 +64,7 @@ class OutputsTest(LiveTest):
 
 class Outputs(OutputsTest):
     def test_dead_reader_of_replies(self):
-        """It is told once, and the night goes on to its end."""
+        """A reader of the replies that died is told once, and the night goes on to its end."""
         for is_there in (True, False):
             with self.subTest(is_there=is_there):
                 reader, writer = os.pipe()
@@ -90,7 +90,8 @@ class Outputs(OutputsTest):
         self.assertEqual(b"replies: device fault\n", night.stderr.read())
 
     def test_full_output_that_does_not_block(self):
-        """It is no fault, whether the pipe blocks or not; what is read later comes then."""
+        """A full output is no fault, whether the pipe blocks or not; what is read later comes
+        then."""
         for blocks in (False, True):
             with self.subTest(blocks=blocks):
                 reader, writer, filled = full_pipe()
@@ -119,7 +120,8 @@ class Outputs(OutputsTest):
         self.assertEqual(0, night.wait(timeout=30))
 
     def test_reader_that_stalls(self):
-        """What there is no room for is dropped, and in its place stands how much that was."""
+        """A reader that stalls: what there is no room for is dropped, and in its place stands how
+        much that was."""
         record = self.folder / "night.play"
         night = self.begin_night("--record", record)
         count = 30_000
@@ -150,7 +152,8 @@ class Outputs(OutputsTest):
         self.assertTicks(record)
 
     def test_messages_that_nobody_reads(self):
-        """Refused lines without end hold up nothing; how many could not be told is told."""
+        """Messages that nobody reads: refused lines without end hold up nothing; how many could not
+        be told is told."""
         record = self.folder / "night.play"
         night = self.begin_night("--record", record)
         night.stdin.write(b"no such command\n" * 10_000)

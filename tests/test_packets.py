@@ -24,7 +24,8 @@ def slots_text(offset, reply):
 
 class Packets(FolderTest):
     def test_cut_packet(self):
-        """Over a socket, a number of datagrams at a time."""
+        """A packet cut to each length is Short, then Length, and the whole one is taken. Over a
+        socket, a number of datagrams at a time."""
         replies = replies_by_number("cut_packet", "bytes")
         listener = Listener(count=len(replies))
         self.addCleanup(listener.abandon)
@@ -36,7 +37,8 @@ class Packets(FolderTest):
         self.assertEqual((0, b"slots 1:64\n", b""), listener.close())
 
     def test_turned_bytes(self):
-        """In memory, each so late that what came before is forgotten; and then what is shown."""
+        """A packet with each byte turned has the fault of its field, or is taken as it is. In
+        memory, each so late that what came before is forgotten; and then what is shown."""
         replies = replies_by_number("turned_bytes", "offsets")
         lines, out = [f"console 1 100 {CID}", "receiver 1"], []
         for offset in range(len(LOOK_ONE)):

@@ -14,7 +14,7 @@ TOOLS = [
     *(TOP / "tools/cueplayer_tools", TOP / "cueplayer-night"),
     *(TOP / "tools" / name for name in NAMES),
 ]
-SCRIPTS = ("edits", "lines", "pages", "wrong-programs")
+SCRIPTS = ("calls", "edits", "lines", "pages", "wrong-programs")
 PACKAGES = ("generators", "wrong_bodies")
 WRITERS = [TOP / "dev" / name for name in (*PACKAGES, *SCRIPTS)]
 TESTS = [TOP / "tests", TOP / "tests/run"]

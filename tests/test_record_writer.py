@@ -82,6 +82,8 @@ class WriterTest(OutputsTest):
 
 
 class RecordWriter(WriterTest):
+    """A record on a disk that stalls, or whose writer or program is killed: ticks come in time."""
+
     def test_whole_at_the_end(self):
         """When the program has ended, the record has all of it."""
         for option in (("--record", self.record), (f"--record={self.record}",)):
@@ -145,7 +147,7 @@ class RecordWriter(WriterTest):
         self.assertEqual([b"sub 1 FL", b"sub 1 50", b"master 50"], commands(self.record))
 
     def test_writer_that_is_killed(self):
-        """It is told, and the night goes on to its end."""
+        """A writer of the record that is killed is told, and the night goes on to its end."""
         night = self.begin_night("--record", self.record)
         self.light(night, b"sub 1 FL\n", 128)
         os.kill(self.writer(night), signal.SIGKILL)

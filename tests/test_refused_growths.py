@@ -128,7 +128,7 @@ class RefusedGrowths(Growths):
         self.assertEachRefused(["rehearse", self.show, script], b"")
 
     def test_watch(self):
-        """What was printed at the lines before stays."""
+        """Each allocation of `watch` is refused: what was printed at the lines before stays."""
         words = ["watch", "1", "2"]
         lines = text(*(f"{200 * n} {watch_datagram(n).hex()}" for n in range(8)), "9000")
         whole = self.run_preloaded(words, lines, self.environment(0))
@@ -194,7 +194,8 @@ def every_line():
 
 
 class NoGrowths(Growths):
-    """What is asked for before the first line or datagram is all that is asked for."""
+    """Once `play` is open, or the first datagram is there, no memory is asked for. What is asked
+    for before is all that is asked for."""
 
     SHOW = MOVING_SHOW
 

@@ -64,7 +64,8 @@ class RefusedLines(LiveTest):
             )
 
     def test_keys(self):
-        """They are left out of the line, which is taken, and that is told once a line."""
+        """Arrow and function keys are left out of a line, which is taken, and that is told once a
+        line."""
         for sent in SENT:
             for line in (f"{sent}go", f"go{sent}", f"g{sent}o", f"{sent}{sent} go {sent}"):
                 with self.subTest(line):
@@ -79,6 +80,7 @@ class RefusedLines(LiveTest):
         self.assertEqual("where next 1 master 255", shown[0])
 
     def test_keys_alone(self):
+        """A line of nothing but keys is refused."""
         shown, refused = self.type_lines("\x1b[A", "\x1b[A\x1b[B", "\x1b")
         lines = ("?[A", "?[A?[B", "?")
         self.assertEqual([f"line refused: {line}: {KEYS}" for line in lines], refused)

@@ -41,6 +41,8 @@ class Rehearse(FolderTest):
             yield text(f"{25 * i} tick 0"), f"live 1:s{i % 256}"
 
     def test_window_wrap(self):
+        """Packets that come late or never, over a wrap of their numbers: the newest shows, and what
+        is late is ignored."""
         delivered = []
         for row in table("window_wrap").rows:
             newest, oldest = map(int, row.cells["delivered"].split(" to "))
@@ -52,6 +54,7 @@ class Rehearse(FolderTest):
         self.assertReplies(*self.lines_and_replies(419), *delivered, (b"", f"end 0 {shown}"))
 
     def test_window_edge(self):
+        """A packet 236 ahead of the last that was taken is taken, and one 237 ahead is ignored."""
         for then in tables("window_edge"):
             self.assertReplies(*self.lines_and_replies(237), *steps(then.rows, "then"))
 

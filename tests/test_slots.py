@@ -58,7 +58,7 @@ class Slots(ProgramTest):
         self.assertIn(b"Example: cueplayer slots night.asc 1.5 --base 1", outcome.out)
 
     def test_example_of_the_document(self):
-        (block,) = (block for block in blocks("docs/FORMATS.md") if "cueplayer slots" in block)
+        (block,) = (block for block in blocks("docs/FORMATS.md") if "$ ./cueplayer slots" in block)
         words, _, printed = block.partition("\n")
         show, cue = words.split()[-2:]
         self.assertRuns(["slots", TOP / show, cue], b"", out=printed.encode())

@@ -240,8 +240,8 @@ class StageLight(FolderTest):
         self.assertEqual(slots_line(slots) + "\n", self.shown_slots(universe, datagrams).decode())
 
     def test_one_console(self):
-        """Whatever the network does in the window, the slots are what the show means at the latest
-        tick."""
+        """200 random nights of one console: whatever the network does in the window, the slots are
+        what the show means at the latest tick."""
         for seed in range(200):
             r = random.Random(f"one console {seed}")
             console = console_by_chance(r, CID, r.choice([1, 1, 7, 63984]))
@@ -255,8 +255,8 @@ class StageLight(FolderTest):
         self.assertGreater(self.tally.wraps, 10)
 
     def test_two_consoles(self):
-        """The greatest that the consoles of the greatest priority mean, slot by slot; one that
-        ended its stream counts for nothing."""
+        """50 random nights of two consoles: the slots are the greatest that those of the greatest
+        priority mean; one that ended its stream counts for nothing."""
         priorities = set()
         for seed in range(50):
             r = random.Random(f"two consoles {seed}")
@@ -297,7 +297,8 @@ class StageLight(FolderTest):
             self.assertFalse(is_in_window(numbers), numbers)
 
     def test_outside_the_window(self):
-        """There the slots may be others: a packet that is 20 behind is taken, and shows."""
+        """Outside the window the slots may be others: a packet that is 20 behind is taken, and
+        shows."""
         levels = [packet(1, {1: k + 1}, k) for k in range(21)]
         self.assertEqual(b"slots 1:21\n", self.shown_slots(1, [levels[20], levels[1]]))
         self.assertEqual(b"slots 1:1\n", self.shown_slots(1, [levels[20], levels[0]]))

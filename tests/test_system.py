@@ -163,6 +163,7 @@ class Long(FolderTest):
         return found
 
     def test_thousand_and_one(self):
+        """`listen` of 1,001 datagrams answers each."""
         sent, listener = self.send_and_listen(1001)
         self.assertEqual((1001, (0, b"slots\n", b"")), (sent, listener.close()))
 
@@ -245,7 +246,8 @@ class Processor(FollowTest):
         return shares, [(sleeps(each) - a) / seconds for each, a in zip(processes, slept)]
 
     def test_nights(self):
-        """One that is idle, one whose input has ended, a spare, a backup, and `listen`."""
+        """A night that is idle, one whose input has ended, a spare, a backup and `listen` leave the
+        processor at rest."""
         idle = self.night()
         idle.begin()
         idle.light(2)

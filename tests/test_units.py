@@ -47,6 +47,17 @@ class Units(unittest.TestCase):
         for name in UNITS:
             self.assertNotIn("network-online", unit_text(name))
 
+    def test_notified(self):
+        """systemd hears that packets leave, and that ticks go on; it gives no start up, and a
+        keeper that hears of no tick is begun anew without harm to what plays."""
+        found = dict(settings("night"))
+        self.assertEqual(("notify", "infinity", "10", "SIGTERM"), tuple(
+            found[key] for key in ("Type", "TimeoutStartSec", "WatchdogSec", "WatchdogSignal")
+        ))  # fmt: skip
+        self.assertIn("143", found["RestartForceExitStatus"])
+        # A desk is there also while a night waits for its network card.
+        self.assertNotIn("After", dict(settings("desk")))
+
     def test_user(self):
         """Both run as the user that systemd-sysusers makes."""
         name = re.search(r"(?m)^u (\w+) ", (TOP / "tools/cueplayer.conf").read_text())[1]

@@ -30,17 +30,16 @@ from program import CID, TOP, FolderTest, packet, run, text
 from tooling import PATIENCE, TOOLS, Lines, run_tool, stand_still, wait_for
 from wire import own_network, terminal
 
-from cueplayer_tools.watch_command import (
-    universes_of,
-)  # noqa: E402  (tooling has its folder on the path)
-from cueplayer_tools.watch_files import Record, Script  # noqa: E402
-from cueplayer_tools.watch_rates import Rates  # noqa: E402
-from cueplayer_tools.watch_state import Watched  # noqa: E402
-from cueplayer_tools.watch_view import left_lines, silent_text, time_text  # noqa: E402
-from cueplayer_tools.words import Refused  # noqa: E402
+from cueplayer_tools.watch_files import Came, Record, Script
+from cueplayer_tools.watch_rates import Rates
+from cueplayer_tools.watch_state import Watched
+from cueplayer_tools.watch_view import left_lines, silent_text, time_text
+from cueplayer_tools.watch_words import universes_of
+from cueplayer_tools.words import Refused
 
 NIGHTS, IN_A_SCRIPT, SEED = 1_000, 100, 1
 ON_TRIAL = [1, 2, 7, 63999]
+NOBODY = ("0.0.0.0", 0)
 TENTH = 100
 OTHER = CID[:-1] + "2"
 # Bytes that a disk has room for.
@@ -83,7 +82,7 @@ class Kept(FolderTest):
                     each.clock(moment)
             datagram = inputs.watched_datagram(r, r.choice(sources), numbers, ON_TRIAL) or b"\0"
             for each in files:
-                each.datagram(moment, datagram)
+                each.datagram(Came(moment, datagram, NOBODY, NOBODY))
         return moment + 2_600
 
     def rehearse(self, script):
@@ -145,7 +144,8 @@ class Kept(FolderTest):
             script = Script(name, ON_TRIAL, told.append)
             for number in range(5):
                 script.clock(100 * number)
-                script.datagram(100 * number, packet(1, {1: 1}, number))
+                came = Came(100 * number, packet(1, {1: 1}, number), NOBODY, NOBODY)
+                script.datagram(came)
             script.close()
         self.assertEqual(1, len(told))
         self.assertRegex(told[0], r"short\.script is full: a script has at most 16 MiB$")
@@ -436,7 +436,7 @@ class InLines(ToolTest):
         self.assertEqual(0, child.returncode)
 
     def test_program_that_ends(self):
-        """It is told, and the tool ends."""
+        """A program behind the tool that is killed is told, and the tool ends."""
         child, out, err = self.lines("1")
         (running,) = open(f"/proc/{child.pid}/task/{child.pid}/children").read().split()
         os.kill(int(running), signal.SIGKILL)
@@ -533,8 +533,8 @@ class Screen(TerminalTest):
         self.assertEqual(self.before, termios.tcgetattr(self.slave))
 
     def test_source_that_falls_silent(self):
-        """It stays on the screen, with how long it is gone, and universes without a source are
-        named."""
+        """A source that falls silent stays on the screen, with how long it is gone, and universes
+        without a source are named."""
         self.begin("1", "2")
         self.wait_for("nobody on 1 2")
         self.send(
@@ -612,6 +612,8 @@ class Flood(TerminalTest):
     """Four sources and strangers, as fast as a sender sends, for a second or two."""
 
     def test_flood(self):
+        """Four sources and strangers of 200 CIDs as fast as they can be sent: the screen goes on,
+        memory is bounded, and what the system dropped is told."""
         child = self.begin("1", "2")
         self.send(packet(1, {1: 64}))
         self.wait_for(" 64")

@@ -72,7 +72,8 @@ class Where(LiveTest):
         return line
 
     def test_thousand_commands(self):
-        """It tells the state by the commands that were answered before it."""
+        """`where` among a thousand random commands tells the state by those that were answered
+        before it."""
         r = random.Random(SEED)
         nights, kinds = zip(*(asking_night(r) for _ in range(NIGHTS)))
         for (typed, left), typed_kinds in zip(play_nights(nights), kinds):
@@ -130,7 +131,7 @@ class Where(LiveTest):
             self.assertEqual([line] * 8, told)
 
     def test_behind_the_end(self):
-        """It is answered while the light goes down, too."""
+        """`where` is answered while the light goes down, too."""
         left = play_night(Typed(self.SHOW, ((0, b"sub 3 FL\nend\nwhere\n"),)))
         expected = ["ok", "ok", "where next 1 master 0 sub 3:255", "ok"]
         self.assertEqual(expected, without_moments(text(*left.shown)))
@@ -145,7 +146,7 @@ class Where(LiveTest):
         self.assertRegex(lines[place + 1], r"^\d+:\d\d:\d\d no route to 192\.0\.2\.1: ")
 
     def test_is_alone(self):
-        """With another word it is no request, and refused."""
+        """`where` with another word is no request, and refused."""
         left = play_night(Typed(self.SHOW, ((0, b"where now\nwhere 1\nhelp go\n? ?\n"),)))
         self.assertEqual(["ok", "ok"], without_moments(text(*left.shown)))
         for line in (b"where now", b"where 1", b"help go", b"? ?"):

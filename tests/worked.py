@@ -1,5 +1,5 @@
-"""The worked examples of tests/examples/, which docs/EXAMPLES.md shows: their runs, by their
-names."""
+"""The worked examples of tests/examples/, of which docs/EXAMPLES.md shows some: their runs, by
+their names."""
 
 import re
 import sys
@@ -184,6 +184,8 @@ def with_examples(*columns):
             if any(each.columns == columns for each in tables(name)):
                 # A name is bound at each turn, since the test is run later.
                 run = lambda self, name=name: self.assertExample(name)  # noqa: E731
+                words = name.replace("_", " ")
+                run.__doc__ = example(name).file("text.md") or f"The worked example {words}."
                 setattr(test_class, f"test_{name}", run)
         return test_class
 

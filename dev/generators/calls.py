@@ -1,8 +1,5 @@
-"""The tables of docs/PROVED.md: each public call of the crates, with the clauses of its contract.
-
-Of a call whose documentation has no word on errors, the cell on refusals is written by hand, and
-so is the last cell of each row: these are kept.
-"""
+"""Each public call of the crates, with the clauses of its contract and when it refuses, as
+`dev/calls` prints them."""
 
 import re
 from collections.abc import Iterator
@@ -11,7 +8,6 @@ from typing import NamedTuple
 
 from generators.marks import TOP
 
-PAGE = TOP / "docs/PROVED.md"
 # Whose calls no clause can describe, since they are of devices that do not tell.
 UNTOLD = ("system_devices",)
 # What a device takes is its own: one over memory grows.
@@ -22,16 +18,15 @@ END = re.compile(r"\n\s*(requires|ensures|ghost|decreases|where)\b|[{;]")
 FUNCTION = re.compile(r"^( *)(pub )?(?:const )?fn (\w+)", re.M)
 IMPL = r"impl(?:<[^>]*>)? (?:([\w:]+)(?:<[^>]*>)? for )?(\w+)"
 OWNER = re.compile(rf"^(?:{IMPL}|pub trait (\w+))", re.M)
-# A clause of a contract, with the comment above it; the name may be left out.
 # The bounds of type parameters, in front of the clauses.
 BOUNDS = re.compile(r"\s*where\b[^{;]*?,(?=\s*(?:requires|ensures)\b)")
+# A clause of a contract, with the comment above it; the name may be left out.
 CLAUSE = re.compile(r"\s*(?://[^\n]*\n\s*)*(requires|ensures)\*?(?: (\w+))? \{")
 # The doc comment above a function; in it, when the call refuses.
 DOC = re.compile(r"((?:^ *///[^\n]*\n)+)(?: *#\[[^\n]*\n)*\Z", re.M)
 ERRORS = re.compile(r"^# Errors\n\n(.*?)(?:\n\n|\Z)", re.M | re.S)
 LAWS = ("laws.rt", "law.rt")
-TITLE = "| Call | Under | Clauses | Memory | Refuses | Only tested |"
-RULE = "|---|---|---|---|---|---|"
+SENTENCE = re.compile(r".*?\.(?=\s|$)", re.S)
 
 
 class Call(NamedTuple):
@@ -40,7 +35,7 @@ class Call(NamedTuple):
     said: str
     under: list[str]
     clauses: list[str]
-    refuses: str
+    doc: str
 
     def may_grow(self) -> bool:
         """What keeps the allocator for later, and cannot answer want of memory, takes none."""
@@ -57,21 +52,32 @@ class Call(NamedTuple):
         """Whether it answers, or may change what it is given."""
         return "->" in self.said or "&mut" in self.said
 
-    def row(self, refuses: str, only_tested: str) -> str:
-        """Its row of a table, with the two cells that may be written by hand."""
-        cells = [
-            f"`{self.said}`",
-            names(self.under),
-            names(self.clauses),
-            "may grow" if self.may_grow() else "none",
-            self.refuses or refuses,
-            only_tested,
-        ]
-        return re.sub(" +", " ", f"| {' | '.join(cells)} |")
+    def refuses(self) -> str:
+        """When it answers a fault or `None`: what its documentation says of errors, else of `None`,
+        else what it answers."""
+        if not self.can_refuse():
+            return ""
+        if errors := ERRORS.search(self.doc):
+            return in_words(errors[1])
+        sentences = [in_words(found[0]) for found in SENTENCE.finditer(self.doc)]
+        return next((each for each in sentences if "None" in each), "".join(sentences[:1]))
+
+    def told(self) -> str:
+        """The call in lines: its signature, and what is known of it."""
+        rows = {
+            "requires": " ".join(self.under),
+            "ensures": " ".join(self.clauses),
+            "memory": "may grow" if self.may_grow() else "",
+            "refuses": self.refuses(),
+        }
+        return "".join(
+            [f"{self.said}\n", *(f"    {name:<9}{text}\n" for name, text in rows.items() if text)]
+        )
 
 
-def names(labels: list[str]) -> str:
-    return " ".join(f"`{label}`" for label in labels)
+def in_words(doc: str) -> str:
+    """A part of a documentation in one line, without its links."""
+    return re.sub(r"\[(`[^`]*`)\](?:\([^)]*\))?", r"\1", re.sub(r"\s+", " ", doc).strip())
 
 
 def end_of_signature(text: str, start: int) -> int:
@@ -109,12 +115,10 @@ def contract(text: str, at: int) -> tuple[list[str], list[str]]:
     return found["requires"], found["ensures"]
 
 
-def refusal(above: str) -> str:
-    """What the documentation above a function says of its errors, in one line."""
+def documentation(above: str) -> str:
+    """The doc comment that ends this text, without its marks."""
     doc = DOC.search(above)
-    said = doc and ERRORS.search(re.sub(r"(?m)^ */// ?", "", doc[1]))
-    told = re.sub(r"\s+", " ", said[1]).strip() if said else ""
-    return re.sub(r"\[(`[^`]*`)\](?:\([^)]*\))?", r"\1", told)
+    return re.sub(r"(?m)^ */// ?", "", doc[1]).strip() if doc else ""
 
 
 def exports(crate: Path) -> set[str]:
@@ -155,7 +159,7 @@ def calls_in(file: Path, public_names: set[str]) -> Iterator[Call]:
                 # Such a `next` has its contract from the trait, in these words.
                 clauses = re.findall(r"(?m)^    ghost (\w+) = ", text[begin : found.start()])
         if public:
-            yield Call(said, under, clauses, refusal(text[: found.start()]))
+            yield Call(said, under, clauses, documentation(text[: found.start()]))
 
 
 def calls_of(crate: Path) -> list[Call]:
@@ -179,35 +183,8 @@ def all_calls() -> dict[str, list[Call]]:
     return {name: calls for name, calls in found.items() if calls}
 
 
-def tables_place(page: str) -> slice:
-    """The page's tables of calls: from the first crate to the next chapter."""
-    begin = page.index("\n### ", page.index("\n## Each public call\n")) + 1
-    return slice(begin, page.index("\n## ", begin) + 1)
-
-
-def rows(page: str) -> Iterator[tuple[str, str, tuple[str, str]]]:
-    """The rows of the page, each as its crate, its call and its last two cells."""
-    crate = ""
-    for line in page[tables_place(page)].splitlines():
-        if line.startswith("### "):
-            crate = line[4:]
-        elif line.startswith("| `"):
-            _, said, *_, refuses, only_tested, _ = (cell.strip() for cell in line.split("|"))
-            yield crate, said.strip("`"), (refuses, only_tested)
-
-
-def tables(page: str) -> str:
-    by_hand = {(crate, said): cells for crate, said, cells in rows(page)}
-    parts = []
-    for name, calls in all_calls().items():
-        parts += [f"### {name}", "", TITLE, RULE]
-        parts += [call.row(*by_hand.get((name, call.said), ("", ""))) for call in calls]
-        parts.append("")
-    return "".join(part + "\n" for part in parts)
-
-
-def page() -> str:
-    """The page, with its tables as they have to be."""
-    written = PAGE.read_text()
-    place = tables_place(written)
-    return written[: place.start] + tables(written) + written[place.stop :]
+def purpose(crate: str) -> str:
+    """What a crate is for: the first sentence of its README."""
+    page = (TOP / "crates" / crate / "README.md").read_text()
+    found = SENTENCE.match(page.partition("\n\n")[2])
+    return in_words(found[0]) if found else ""

@@ -2,7 +2,7 @@
 
 A folder has `example.json`, and beside it what the example needs: `text.md`, which stands above
 its tables on the page, `after.md`, which stands below, and `show.asc`, the show of its runs, where
-that is not S1.asc. `page.md` has the chapters of the page, and the examples in their order.
+that is not S1.asc. `page.md` has the chapters of the page, and shows or names each example.
 
 example.json has `tables`, and `above` where lines stand above each show or script. A table has
 `rows`, and may have a `note` above it, the `options` of its runs, and `begins` with the example

@@ -13,10 +13,10 @@ PLAIN = ("delivered", "bytes", "offsets")
 
 
 class WrongOrder(Exception):
-    """tests/examples/page.md does not name each example once."""
+    """tests/examples/page.md does not show or name each example once."""
 
     def __init__(self, names: str) -> None:
-        super().__init__(f"tests/examples/page.md has to name each example once: {names}")
+        super().__init__(f"tests/examples/page.md has to show or name each example once: {names}")
 
 
 def code(words: str) -> str:
@@ -123,11 +123,18 @@ def body(found: Example) -> str:
     return "".join(f"{part}\n\n" for part in parts if part)
 
 
+def named(written: str) -> list[str]:
+    """The examples that page.md shows, and those that it names below `More:`."""
+    shown = re.findall(r"(?m)^### (\w+)\n", written)
+    more = re.findall(r"(?m)^More: .*$", written)
+    return shown + [name for line in more for name in re.findall(r"`(\w+)`", line)]
+
+
 def page() -> str:
     """The page."""
     written = (FOLDER / "page.md").read_text()
     written = written.replace("{S1.asc}\n", (FOLDER / "S1.asc").read_text())
-    found = re.findall(r"(?m)^### (\w+)\n", written)
+    found = named(written)
     if sorted(found) != names():
         raise WrongOrder(" ".join(sorted(set(found) ^ set(names()))))
     written = re.sub(

@@ -2,7 +2,7 @@
 
 from pathlib import Path
 
-from generators import calls, examples_page, specified_bodies, synopsis, wrong_programs
+from generators import examples_page, specified_bodies, synopsis
 from generators.command_line import jobs
 from generators.marks import TOP, with_block
 
@@ -32,7 +32,4 @@ def pages() -> dict[Path, str]:
             text = with_block(name, block, content, text)
         found[TOP / name] = text
     found[TOP / "docs/EXAMPLES.md"] = examples_page.page()
-    found[calls.PAGE] = with_block(
-        "docs/PROVED.md", "the wrong programs", wrong_programs.table(), calls.page()
-    )
     return found

@@ -19,13 +19,19 @@ OF_THE_FOLDER = {"--record", "--resume", "--spare", "--follow", "--patience"}
 
 
 def readme() -> str:
-    """The block of README's *Use*."""
+    """The block of README's *Install and use*."""
     lines = ["```"]
     for job in jobs():
-        lines += use(job.synopsis(), job.does())
+        lines += use(without_many_options(job.synopsis()), job.does())
     for option, does in BESIDE.items():
         lines += use([f"cueplayer {option}"], does)
     return "".join(f"{line}\n" for line in [*lines, "```"])
+
+
+def without_many_options(parts: list[str]) -> list[str]:
+    """The parts of a synopsis, with one word for its options where it may have several."""
+    needed = [part for part in parts if not part.startswith("[")]
+    return parts if len(parts) - len(needed) < 2 else [*needed, "[OPTION..]"]
 
 
 def use(parts: list[str], does: str) -> list[str]:
@@ -41,9 +47,9 @@ def use(parts: list[str], does: str) -> list[str]:
 
 
 def formats() -> str:
-    """The rows of FORMATS' table."""
-    rows = [f"| `{' '.join(job.synopsis())}` | {job.does()} |\n" for job in jobs()]
-    return "| Line | Does |\n|---|---|\n" + "".join(rows)
+    """The block of FORMATS' *The command line*: each line with all its options."""
+    lines = [line for job in jobs() for line in use(job.synopsis(), "")]
+    return "".join(f"{line}\n" for line in ["```", *lines, "```"])
 
 
 def roff(text: str) -> str:

@@ -1,9 +1,9 @@
 """The wrong programs of tests/wrong_programs/: what each has wrong, which tests catch it, and the
-edit of the sources that makes it; and the table of them in docs/PROVED.md.
+edit of the sources that makes it.
 
 A file has lines of five kinds:
 
-    wrong: WORDS                      what is wrong, as the table tells it
+    wrong: WORDS                      what is wrong
     caught: [NAME=VALUE ..] TEST ..   the variables and the names of the tests: a module, a class
                                       of it, or one test
     wrong body: NAME                  where a contract lets it through: which wrong body it is
@@ -18,7 +18,6 @@ from typing import NamedTuple
 from generators.marks import TOP
 
 FOLDER = TOP / "tests/wrong_programs"
-TITLE = "| The wrong program | Caught by |\n|---|---|\n"
 
 
 class Edit(NamedTuple):
@@ -39,11 +38,10 @@ class WrongProgram(NamedTuple):
     edits: list[Edit]
     wrong_body: str = ""
 
-    def row(self) -> str:
-        """Its row of the table."""
-        tests = ", ".join(f"`{test}`" for test in self.tests)
-        told = " ".join(f"{name}={value}" for name, value in self.environment.items())
-        return f"| {self.wrong} | {tests}{told and f' with `{told}`'} |\n"
+    def told(self) -> str:
+        """What is wrong with it, and which tests catch it, with which variables."""
+        variables = [f"{name}={value}" for name, value in self.environment.items()]
+        return f"{self.name}: {self.wrong}; caught by {' '.join([*variables, *self.tests])}"
 
 
 class EditUnfit(Exception):
@@ -93,9 +91,3 @@ def edited_files(program: WrongProgram, crates: Path) -> dict[Path, str]:
             raise EditUnfit(f"{program.name}: not once in {edit.file}: {edit.old}")
         texts[source] = text.replace(edit.old, edit.new)
     return texts
-
-
-def table() -> str:
-    """The table of docs/PROVED.md: a row a program, those of the same tests side by side."""
-    found = sorted(wrong_programs(), key=lambda each: (each.tests, each.name))
-    return TITLE + "".join(program.row() for program in found)

@@ -14,7 +14,6 @@ from collections.abc import Callable
 from pathlib import Path
 
 from cueplayer_tools.addresses import bound_socket
-from cueplayer_tools.cid_lock import holder
 from cueplayer_tools.console_cid import console_cid
 from cueplayer_tools.cue_list import Show, read_show
 from cueplayer_tools.desk_folder import FolderNight
@@ -37,6 +36,7 @@ from cueplayer_tools.desk_record import choose_record, played_record
 from cueplayer_tools.desk_server import DeskServer
 from cueplayer_tools.desk_view import show_view
 from cueplayer_tools.desk_watch import USUAL_PRIORITY
+from cueplayer_tools.keeper.consoles import await_free
 from cueplayer_tools.midi_port import MidiPort
 from cueplayer_tools.midi_show import Wanted
 from cueplayer_tools.night_folder import NightFolder
@@ -264,7 +264,7 @@ def _watch(night: HeardNight, server: DeskServer, presses: _Presses) -> None:
 
 def _refuse_second(words: argparse.Namespace) -> None:
     """No night of the desk's own begins beside another `live` of its CID."""
-    other = holder(words.cid)
+    other = await_free(str(words.cid))
     if other is not None:
         told = f"process {other} plays live under this CID already: `kill {other}` ends it"
         raise Refused(told + played_record(words))

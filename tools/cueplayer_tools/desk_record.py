@@ -1,6 +1,8 @@
 """The record of a desk's night: a new one beside the show, or the one of a night that broke off."""
 
 import argparse
+import atexit
+import contextlib
 import hashlib
 import os
 import re
@@ -37,7 +39,8 @@ def folder_beside(show: str) -> Path | None:
 
 
 def new_record(show: str) -> Path:
-    """A name that no file has yet, by the date and the time."""
+    """A new file that has no byte yet, named by the date and the time: nobody else begins a night
+    in it."""
     folder = folder_beside(show)
     if folder is None:
         told = "no record can be kept beside the show, nor here"
@@ -45,16 +48,42 @@ def new_record(show: str) -> Path:
     name = f"{Path(show).stem}-{time.strftime('%Y-%m-%dT%H%M%S', time.localtime())}"
     for number in range(1, MOST_NAMES):
         file = folder / (f"{name}.play" if number == 1 else f"{name}-{number}.play")
-        if not os.path.lexists(file):
+        with contextlib.suppress(FileExistsError):
+            _make(file)
             return file
     raise Refused(f"{MOST_NAMES} records began in this second: name one by --record FILE")
+
+
+def _make(file: Path) -> None:
+    """Makes a file, which goes again where no night begins in it."""
+    try:
+        os.close(os.open(file, os.O_WRONLY | os.O_CREAT | os.O_EXCL, 0o666))
+    except FileExistsError:
+        raise
+    except OSError as fault:
+        told = f"{_named(file)}: {fault.strerror}"
+        raise Refused(f"{told}: name a record by --record FILE, or leave it out") from fault
+    atexit.register(_forget_unused, file)
+
+
+def _is_begun(file: Path) -> bool:
+    """Whether it has a byte."""
+    with contextlib.suppress(OSError):
+        return file.is_file() and file.stat().st_size > 0
+    return False
+
+
+def _forget_unused(file: Path) -> None:
+    with contextlib.suppress(OSError):
+        if not _is_begun(file):
+            file.unlink()
 
 
 def newest_record(show: str) -> Path | None:
     """The one of this show that was written last, if there is any."""
     folder, name = folder_beside(show), re.compile(re.escape(Path(show).stem) + _WHEN)
     files = () if folder is None else folder.iterdir()
-    found = [each for each in files if name.fullmatch(each.name) and each.is_file()]
+    found = [each for each in files if name.fullmatch(each.name) and _is_begun(each)]
     return max(found, key=_age_and_name) if found else None
 
 

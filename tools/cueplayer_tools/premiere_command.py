@@ -12,7 +12,6 @@ from pathlib import Path
 
 from cueplayer_tools.addresses import Address
 from cueplayer_tools.asking import answer_to, is_at_terminal, says_yes
-from cueplayer_tools.cid_lock import holder
 from cueplayer_tools.console_cid import console_cid
 from cueplayer_tools.cue_list import Show, read_show
 from cueplayer_tools.desk_command import SWITCH_EVERY, read_words, run_desk
@@ -25,6 +24,7 @@ from cueplayer_tools.desk_network import (
     tls_context,
 )
 from cueplayer_tools.desk_pins import Role
+from cueplayer_tools.keeper.consoles import await_free
 from cueplayer_tools.own_addresses import is_public, own_addresses
 from cueplayer_tools.premiere_night import Premiere, named, usual_folder
 from cueplayer_tools.premiere_show import LightLost, Made, made_show
@@ -149,7 +149,7 @@ def _tell(text: str) -> None:
 def _refuse_second(chosen: argparse.Namespace) -> None:
     """No night begins beside another `live` of its CID."""
     chosen.cid = chosen.cid or console_cid(_tell)
-    if (other := holder(chosen.cid)) is not None:
+    if (other := await_free(str(chosen.cid))) is not None:
         told = f"process {other} plays live under this CID already: `kill {other}` ends it"
         raise Refused(told)
 

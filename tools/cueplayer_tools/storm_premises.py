@@ -1,4 +1,4 @@
-"""When the premises of the promise hold, by what was sent and what came (docs/PROVED.md).
+"""When the premises of the promise hold, by what was sent and what came (docs/ASSURANCE.md).
 
 In the window: each packet that came is at most 19 behind and at most 217 ahead of the newest that
 came before it. A silence of 2.5 seconds begins the window anew: then a receiver has nothing of the

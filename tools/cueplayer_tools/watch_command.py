@@ -2,77 +2,47 @@
 
 import argparse
 import copy
+import json
 import math
 import os
-import re
 import select
 import signal
 import sys
 import time
-from collections.abc import Callable
+from collections.abc import Callable, Iterator
 from dataclasses import dataclass
+from functools import partial
 
-from cueplayer_tools.addresses import port_number
 from cueplayer_tools.watch_feed import Feed
-from cueplayer_tools.watch_files import Record, Script
+from cueplayer_tools.watch_files import AnyKept, Came, Capture, Record, Script
+from cueplayer_tools.watch_json import event, in_json, tables
 from cueplayer_tools.watch_rates import Rates
+from cueplayer_tools.watch_replay import Replay, opened, universes_in
 from cueplayer_tools.watch_screen import Screen
-from cueplayer_tools.watch_socket import PORT, Card, WatchSocket
+from cueplayer_tools.watch_socket import Card, WatchSocket
 from cueplayer_tools.watch_state import Watched
+from cueplayer_tools.watch_told import LOOK, Told, came_of
 from cueplayer_tools.watch_view import View, picture, summary
-from cueplayer_tools.words import Refused, printable
+from cueplayer_tools.watch_words import MOST_UNIVERSES, parse_words, universes_of
+from cueplayer_tools.words import Refused
 
-MOST_UNIVERSES = 16
-TOP_UNIVERSE = 63_999
-# Milliseconds between two looks at the slots, and seconds between two counts.
-LOOK = 100
+# Seconds between two counts.
 SECOND = 1.0
+# How the name of a capture ends.
+CAPTURE = ".pcapng"
 # Datagrams that are taken before anything else is looked at.
 MOST_AT_ONCE = 256
 
 
-def universes_of(words: list[str]) -> list[int]:
-    """The universes that words name, as `1` and `1-4`; Refused where they are none, or too
-    many."""
-    numbers: list[int] = []
-    for word in words:
-        found = re.fullmatch(r"(\d{1,5})(?:-(\d{1,5}))?", word, re.ASCII)
-        if not found:
-            raise Refused(f"not a universe: {printable(word)}")
-        first, last = int(found[1]), int(found[2] or found[1])
-        if not 1 <= first <= last <= TOP_UNIVERSE:
-            raise Refused(f"a universe is a number from 1 to {TOP_UNIVERSE}: {printable(word)}")
-        numbers += range(first, min(last, first + MOST_UNIVERSES) + 1)
-    if len(numbers) > MOST_UNIVERSES:
-        raise Refused(f"a watch has at most {MOST_UNIVERSES} universes")
-    if len(set(numbers)) < len(numbers):
-        raise Refused("a watch names a universe once")
-    return numbers
-
-
-def seconds(word: str) -> float:
-    """A time in seconds, up to a day."""
-    if re.fullmatch(r"\d{1,5}(\.\d{1,3})?", word, re.ASCII) and float(word) <= 86_400:
-        return float(word)
-    raise argparse.ArgumentTypeError(f"not a time: {printable(word)}")
-
-
-@dataclass
-class Watch:
-    """A watch that runs: where datagrams come from, where lines go, and what is known."""
+@dataclass(kw_only=True)
+class Watch(Told):
+    """A watch that runs: what comes to a socket, by the clock."""
 
     socket: WatchSocket
-    feed: Feed
-    kept: list[Record | Script]
-    watched: Watched
-    # Takes each line that is told.
-    print_line: Callable[[str], None]
     # Seconds of which the packets are counted.
     every: float = SECOND
 
     def __post_init__(self) -> None:
-        self.rates = Rates()
-        self.dropped = 0
         self.start = self.second = time.monotonic()
         self.moment = 0
         self.poll = select.poll()
@@ -91,7 +61,7 @@ class Watch:
         """Takes what has come; whether the program still runs."""
         self.tick()
         if self.socket.fileno() in ready and not self.feed.is_full():
-            self.receive()
+            self.give(self._came())
         if self.feed.waiting:
             self.feed.push()
         lines = self.feed.new_lines() if self.feed.output in ready else []
@@ -106,10 +76,8 @@ class Watch:
         """Gives the clock where a tenth of a second has begun, and counts each second."""
         before, self.moment = self.moment, self._now()
         if before // LOOK != self.moment // LOOK:
-            self.feed.give(b"%d\n" % self.moment)
-            self.watched.pass_to(self.moment)
+            self.clock(self.moment)
             for kept in self.kept:
-                kept.clock(self.moment)
                 kept.flush()
         if time.monotonic() - self.second >= self.every:
             self.count()
@@ -124,39 +92,14 @@ class Watch:
         if new:
             self.print_line(f"{self.moment} 0 dropped {new}")
 
-    def receive(self) -> None:
-        """Gives the datagrams that have come, each with this moment."""
-        lines = []
+    def _came(self) -> Iterator[Came]:
+        """The datagrams that have come, each with this moment."""
         for _ in range(MOST_AT_ONCE):
             came = self.socket.next()
             if came is None:
-                break
-            datagram, sender = came
-            self.rates.add(datagram, sender)
-            # An empty datagram is too short, as one of a byte is; a moment alone is the clock.
-            datagram = datagram or b"\0"
-            lines.append(b"%d %s\n" % (self.moment, datagram.hex().encode()))
-            for kept in self.kept:
-                kept.datagram(self.moment, datagram)
-        self.feed.give(b"".join(lines))
-
-    def tell(self, line: str) -> None:
-        """A line of the program, and what follows from it."""
-        self.print_line(line)
-        for more in self.watched.take(line):
-            self.print_line(more)
-
-    def end(self) -> None:
-        """Takes what the program says at the end."""
-        for line in self.feed.end():
-            self.tell(line)
-        for kept in self.kept:
-            kept.close()
-
-    def last_slots(self) -> list[str]:
-        """The slots of each universe, as they are now."""
-        moment = self.watched.moment
-        return [f"{moment} {u.number} {u.slots_line()}" for u in self.watched.universes.values()]
+                return
+            data, sender, to = came
+            yield came_of(self.moment, data, sender, (to, self.socket.port))
 
 
 def print_out(line: str) -> None:
@@ -217,35 +160,28 @@ def show(watch: Watch, over: Over) -> bool:
         screen.leave()
 
 
-def parse_words(words: list[str]) -> argparse.Namespace:
-    """The words of the command line."""
-    parser = argparse.ArgumentParser(prog="watch", description=__doc__)
-    parser.add_argument(
-        "universes", metavar="UNIVERSE", nargs="+", help="a universe, as 1, or several, as 1-4"
-    )
-    parser.add_argument(
-        "--interface",
-        metavar="CARD",
-        help="the network card to join groups by: its name or address",
-    )
-    parser.add_argument(
-        "--port", type=port_number, default=PORT, help=f"the port of the datagrams ({PORT})"
-    )
-    parser.add_argument(
-        "--once",
-        metavar="SECONDS",
-        type=seconds,
-        help="watch for that long, print what is known, and end",
-    )
-    parser.add_argument("--lines", action="store_true", help="print lines on a terminal too")
-    parser.add_argument("--record", metavar="FILE", help="keep what came, for cueplayer watch")
-    parser.add_argument("--script", metavar="FILE", help="keep what came, for cueplayer rehearse")
-    return parser.parse_args(words)
-
-
 def complain(text: str) -> None:
     """Tells on standard error."""
     print(f"watch: {text}", file=sys.stderr, flush=True)
+
+
+def print_line_of(chosen: argparse.Namespace, is_quiet: bool) -> Callable[[str], None]:
+    """What prints each line that is told."""
+    if is_quiet:
+        return silent
+    return in_json(print_out) if chosen.json else print_out
+
+
+def kept_of(chosen: argparse.Namespace, universes: list[int]) -> list[AnyKept]:
+    """The files that keep what comes; Refused where one cannot be made."""
+    kept: list[AnyKept] = []
+    if chosen.record is not None and chosen.record.endswith(CAPTURE):
+        kept.append(Capture(chosen.record, complain))
+    elif chosen.record is not None:
+        kept.append(Record(chosen.record, universes, complain))
+    if chosen.script is not None:
+        kept.append(Script(chosen.script, universes, complain))
+    return kept
 
 
 def open_watch(chosen: argparse.Namespace, universes: list[int], is_quiet: bool) -> Watch:
@@ -253,29 +189,52 @@ def open_watch(chosen: argparse.Namespace, universes: list[int], is_quiet: bool)
     receiver = WatchSocket(universes, Card(chosen.interface), chosen.port)
     if receiver.lacking:
         complain(f"{receiver.lacking}; only unicast is heard: name a network card by --interface")
-    kept: list[Record | Script] = []
-    if chosen.record is not None:
-        kept.append(Record(chosen.record, universes, complain))
-    if chosen.script is not None:
-        kept.append(Script(chosen.script, universes, complain))
     every = SECOND if chosen.once is None else math.inf
-    print_line = silent if is_quiet else print_out
-    return Watch(receiver, Feed(universes), kept, Watched(universes), print_line, every)
+    kept, print_line = kept_of(chosen, universes), print_line_of(chosen, is_quiet)
+    told = Feed(universes), kept, Watched(universes), print_line
+    return Watch(*told, socket=receiver, every=every)
 
 
-def run(chosen: argparse.Namespace, universes: list[int], over: Over) -> int:
+def run(chosen: argparse.Namespace, over: Over) -> int:
     """Watches as the words ask for; the exit status."""
-    has_screen = (
-        chosen.once is None and not chosen.lines and sys.stdin.isatty() and sys.stdout.isatty()
-    )
-    watch = open_watch(chosen, universes, has_screen or chosen.once is not None)
+    has_screen = chosen.once is None and not is_for_programs(chosen) and sys.stdin.isatty()
+    is_quiet = has_screen or chosen.once is not None
+    watch = open_watch(chosen, universes_of(chosen.universes), is_quiet)
     until = math.inf if chosen.once is None else watch.start + chosen.once
-    try:
+
+    def follows() -> bool:
         ran = show(watch, over) if has_screen else follow(watch, until, over)
-        watch.end()
-        print("\n".join(last_lines(watch, chosen.once is not None)), flush=True)
-    except (BrokenPipeError, KeyboardInterrupt):
-        watch.feed.stop()
+        if chosen.once is not None:
+            watch.count()
+        return ran
+
+    return tell_all(chosen, watch, follows, chosen.once is not None)
+
+
+def replay(chosen: argparse.Namespace) -> int:
+    """Watches a capture; the exit status."""
+    universes = universes_of(chosen.universes) or universes_in(
+        chosen.capture, chosen.port, MOST_UNIVERSES
+    )
+    has_table = chosen.once is not None or not is_for_programs(chosen)
+    kept, print_line = kept_of(chosen, universes), print_line_of(chosen, has_table)
+    told = Told(Feed(universes), kept, Watched(universes), print_line)
+    longest = math.inf if chosen.once is None else 1000 * chosen.once
+    with opened(chosen.capture) as file:
+        reads = partial(Replay(told, chosen.port, longest).run, file)
+        return tell_all(chosen, told, reads, has_table)
+
+
+def tell_all(
+    chosen: argparse.Namespace, told: Told, follows: Callable[[], bool], has_table: bool
+) -> int:
+    """Follows a watch to its end, and tells what there is to tell then; the exit status."""
+    try:
+        ran = follows()
+        told.end()
+        print("\n".join(last_lines(chosen, told, has_table)), flush=True)
+    except (BrokenPipeError, KeyboardInterrupt, Refused):
+        told.feed.stop()
         raise
     if not ran:
         complain("cueplayer watch ended by itself: what it printed is above")
@@ -283,19 +242,26 @@ def run(chosen: argparse.Namespace, universes: list[int], over: Over) -> int:
     return 0
 
 
-def last_lines(watch: Watch, is_summary: bool) -> list[str]:
+def is_for_programs(chosen: argparse.Namespace) -> bool:
+    """Whether lines are printed, and no screen or table for people."""
+    return chosen.lines or chosen.json or not sys.stdout.isatty()
+
+
+def last_lines(chosen: argparse.Namespace, told: Told, has_table: bool) -> list[str]:
     """What is printed at the end: who sends what, or the slots."""
-    if not is_summary:
-        return watch.last_slots()
-    watch.count()
-    return summary(watch.watched, watch.rates, watch.dropped)
+    if not has_table:
+        lines = told.last_slots()
+        return [json.dumps(event(line)) for line in lines] if chosen.json else lines
+    table = tables if chosen.json else summary
+    return table(told.watched, told.rates, told.dropped)
 
 
 def main(words: list[str]) -> int:
     """Runs the tool with these words, and answers its exit status."""
     chosen = parse_words(words)
     try:
-        return run(chosen, universes_of(chosen.universes), Over())
+        over = Over()
+        return replay(chosen) if chosen.capture else run(chosen, over)
     except Refused as fault:
         complain(str(fault))
         return 2

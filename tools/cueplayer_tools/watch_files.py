@@ -1,8 +1,13 @@
-"""What `tools/watch` keeps: a record for `cueplayer watch`, and a script of a rehearsal."""
+"""What `tools/watch` keeps: a record for `cueplayer watch`, a capture, and a script of a
+rehearsal."""
 
+import time
 from collections.abc import Callable
+from dataclasses import dataclass
 from typing import BinaryIO
 
+from cueplayer_tools.addresses import Address
+from cueplayer_tools.captures.writing import Frame, capture_frame, capture_head
 from cueplayer_tools.words import Refused, printable
 
 # A script has at most so many receivers, and so many bytes (FORMATS.md, "The scripts of
@@ -14,10 +19,20 @@ _UNIVERSE = slice(113, 115)
 _CONSOLE = "console 1 100 00000000-0000-4000-8000-000000000001"
 
 
+@dataclass(frozen=True)
+class Came:
+    """A datagram, the milliseconds of the watch at which it came, from where and to where."""
+
+    moment: int
+    data: bytes
+    source: Address
+    to: Address
+
+
 class Kept:
     """A new file, which takes lines until one cannot be written: that is told once."""
 
-    def __init__(self, name: str, head: str, tell: Callable[[str], None]) -> None:
+    def __init__(self, name: str, head: bytes, tell: Callable[[str], None]) -> None:
         """Refused where the file cannot be made, or is there already."""
         self.name = name
         self.tell = tell
@@ -27,7 +42,7 @@ class Kept:
         except OSError as fault:
             raise Refused(f"{printable(name)}: {fault.strerror}") from fault
         self.size = 0
-        self.write(head.encode())
+        self.write(head)
 
     def write(self, lines: bytes) -> None:
         if self.file is None:
@@ -67,13 +82,26 @@ class Record(Kept):
 
     def __init__(self, name: str, universes: list[int], tell: Callable[[str], None]) -> None:
         head = f"! cueplayer watch {' '.join(map(str, universes))} <FILE\n"
-        super().__init__(name, head, tell)
+        super().__init__(name, head.encode(), tell)
 
     def clock(self, moment: int) -> None:
         self.write(b"%d\n" % moment)
 
-    def datagram(self, moment: int, datagram: bytes) -> None:
-        self.write(b"%d %s\n" % (moment, datagram.hex().encode()))
+    def datagram(self, came: Came) -> None:
+        self.write(b"%d %s\n" % (came.moment, came.data.hex().encode()))
+
+
+class Capture(Kept):
+    """The datagrams as a capture, at the time of the day."""
+
+    def __init__(self, name: str, tell: Callable[[str], None]) -> None:
+        super().__init__(name, capture_head("cueplayer watch"), tell)
+
+    def clock(self, moment: int) -> None:
+        """A capture has no clock."""
+
+    def datagram(self, came: Came) -> None:
+        self.write(capture_frame(Frame(time.time_ns() // 1000, came.source, came.to, came.data)))
 
 
 class Script(Kept):
@@ -85,16 +113,16 @@ class Script(Kept):
         self.receivers = {universe: place for place, universe in enumerate(universes)}
         receivers = "".join(f"receiver {universe}\n" for universe in universes)
         head = f"! cueplayer rehearse SHOW FILE, of any show\n{_CONSOLE}\n{receivers}"
-        super().__init__(name, head, tell)
+        super().__init__(name, head.encode(), tell)
 
     def clock(self, moment: int) -> None:
         self._add(b"".join(b"%d slots %d\n" % (moment, r) for r in self.receivers.values()))
 
-    def datagram(self, moment: int, datagram: bytes) -> None:
-        universe = int.from_bytes(datagram[_UNIVERSE], "big")
+    def datagram(self, came: Came) -> None:
+        universe = int.from_bytes(came.data[_UNIVERSE], "big")
         # The first receiver ignores what is of no universe here, for the reason that watch counts.
         receiver = self.receivers.get(universe, 0)
-        self._add(b"%d stray %d %s\n" % (moment, receiver, datagram.hex().encode()))
+        self._add(b"%d stray %d %s\n" % (came.moment, receiver, came.data.hex().encode()))
 
     def _add(self, lines: bytes) -> None:
         if self.size + len(lines) > LONGEST_SCRIPT:
@@ -102,3 +130,6 @@ class Script(Kept):
                 self._leave(f"{printable(self.name)} is full: a script has at most 16 MiB")
             return
         self.write(lines)
+
+
+AnyKept = Record | Capture | Script

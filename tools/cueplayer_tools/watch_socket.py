@@ -18,6 +18,10 @@ ROOM = 8 << 20
 # Of Linux, not named in `socket`.
 _SO_RCVBUFFORCE, _IP_MULTICAST_ALL, _SO_MEMINFO, _DROPS = 33, 49, 55, 8
 _COUNTS = struct.Struct("@9I")
+# A card's number and two addresses: the last is that to which a datagram was sent.
+_PACKET_INFO = struct.Struct("@i4s4s")
+_IP_PKTINFO = 8
+_ROOM_FOR_ADDRESS = socket.CMSG_SPACE(_PACKET_INFO.size)
 
 
 def group_of(universe: int) -> str:
@@ -70,6 +74,7 @@ class WatchSocket:
         """Binds the port, beside others that share it, and joins the groups. OSError where that
         fails; `lacking` has why a group could not be joined, the first one."""
         self.socket = socket.socket(socket.AF_INET, socket.SOCK_DGRAM)
+        self.port = port
         self.lacking: str | None = None
         self.dropped = 0
         try:
@@ -89,6 +94,7 @@ class WatchSocket:
             self.socket.setsockopt(socket.SOL_SOCKET, _SO_RCVBUFFORCE, ROOM)
         except OSError:
             self.socket.setsockopt(socket.SOL_SOCKET, socket.SO_RCVBUF, ROOM)
+        self.socket.setsockopt(socket.IPPROTO_IP, _IP_PKTINFO, 1)
         # Groups that another program joined, at another card, are not meant.
         self.socket.setsockopt(socket.IPPROTO_IP, _IP_MULTICAST_ALL, 0)
 
@@ -107,13 +113,16 @@ class WatchSocket:
     def close(self) -> None:
         self.socket.close()
 
-    def next(self) -> tuple[bytes, Address] | None:
-        """The next datagram, its first 1,500 bytes, and who sent it; None where none is there."""
+    def next(self) -> tuple[bytes, Address, str] | None:
+        """The next datagram, its first 1,500 bytes, who sent it, and to which address; None where
+        none is there."""
         try:
-            return self.socket.recvfrom(LONGEST_DATAGRAM)
+            data, more, _, sender = self.socket.recvmsg(LONGEST_DATAGRAM, _ROOM_FOR_ADDRESS)
         except OSError:
             # Nothing is there, or the system's reason is of one datagram alone.
             return None
+        to = socket.inet_ntoa(more[0][2][-4:]) if more else "0.0.0.0"
+        return data, sender, to
 
     def newly_dropped(self) -> int:
         """How many datagrams found no room since the last look; 0 where the system does not

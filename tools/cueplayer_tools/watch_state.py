@@ -11,8 +11,9 @@ FLASH = 1_000
 SHOWN = 3_000
 # Sources that have left a universe and are still named: the last ones.
 MOST_LEFT = 4
-_LINE = re.compile(r"(\d+) (\d+) (\w+)(?: (.*))?", re.ASCII)
-_SOURCE = re.compile(r"(.*) ([0-9a-f-]{36})(?: priority (\d+)| (\d+))?", re.ASCII)
+# A line of `watch`: its moment, universe and word, and the rest. What the rest says of a source.
+LINE = re.compile(r"(\d+) (\d+) (\w+)(?: (.*))?", re.ASCII)
+SOURCE = re.compile(r"(.*) ([0-9a-f-]{36})(?: priority (\d+)| (\d+))?", re.ASCII)
 
 
 @dataclass
@@ -109,7 +110,7 @@ class Watched:
 
     def take(self, line: str) -> list[str]:
         """Takes a line of `watch`; what is told behind it."""
-        found = _LINE.fullmatch(line)
+        found = LINE.fullmatch(line)
         if not found:
             return []
         moment, number = int(found[1]), int(found[2])
@@ -133,7 +134,7 @@ class Watched:
 
     @staticmethod
     def _change(universe: Universe, word: str, rest: str, moment: int) -> None:
-        found = _SOURCE.fullmatch(rest)
+        found = SOURCE.fullmatch(rest)
         if not found:
             return
         name, cid, priority, lost = found.groups()

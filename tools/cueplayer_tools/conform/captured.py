@@ -8,7 +8,7 @@ from cueplayer_tools.addresses import Address
 from cueplayer_tools.conform.capture import Heard
 from cueplayer_tools.conform.diagnoses import slots_text
 from cueplayer_tools.conform.expected import Done
-from cueplayer_tools.conform.pcapng import Frame, capture_of
+from cueplayer_tools.captures.writing import Frame, capture_of
 from cueplayer_tools.conform.peers import PORT
 from cueplayer_tools.conform.script import Look
 from cueplayer_tools.conform.verdicts import Named, Played

@@ -23,7 +23,7 @@ def _cell(found: RuleFound | None) -> str:
     if found.verdict == SEEN:
         return found.says()
     chosen = {each.says for each in found.cases if each.verdict == CHOICE}
-    return f"choice: {chosen.pop()}" if len(chosen) == 1 else "choices"
+    return f"*{chosen.pop()}*" if len(chosen) == 1 else "*choices*"
 
 
 def _table(results: list[Result]) -> Iterator[str]:
@@ -46,21 +46,21 @@ def _by_text(rule: RuleFound, verdict: str) -> dict[str, str]:
 
 
 def _remarks(result: Result) -> Iterator[str]:
-    """What the table has no room for: of what is broken, each case, what was not tried, and choices
-    that differ."""
+    """What the table has no room for: how the first case broke a rule, what was not tried, and
+    choices that differ."""
     missing: dict[str, list[str]] = {}
     for rule in result.rules:
-        for says, cases in _by_text(rule, BROKEN).items():
-            about = "" if cases == rule.rule else f", {cases}"
-            yield f"- **{rule.rule}**{about}: {says}."
-        for says, cases in _by_text(rule, NOT_TRIED).items():
-            missing.setdefault(says, []).append(f"{rule.rule}, {cases}")
+        if wrong := list(_by_text(rule, BROKEN)):
+            more = f" ({len(wrong) - 1} more)" if wrong[1:] else ""
+            yield f"- **{rule.rule}**: {wrong[0]}{more}."
+        for says in _by_text(rule, NOT_TRIED):
+            missing.setdefault(says, []).append(rule.rule)
         chosen = _by_text(rule, CHOICE)
         if len(chosen) > 1:
             told = (f"{cases}: {says}" for says, cases in chosen.items())
             yield f"- {rule.rule}: {'; '.join(told)}."
-    for says, all_cases in missing.items():
-        yield f"- not tried: {'; '.join(all_cases)}: {says}."
+    for says, rules in missing.items():
+        yield f"- not tried: {', '.join(rules)}: {says}."
 
 
 def _results(results: list[Result]) -> str:

@@ -2,25 +2,13 @@
 
 import contextlib
 import os
-import time
 
+from cueplayer_tools.keeper.aside import put_aside
 from cueplayer_tools.keeper.endings import AGAIN
 from cueplayer_tools.keeper.folder import Folder
 from cueplayer_tools.keeper.last_cue import find_last_cue
 from cueplayer_tools.keeper.show_copy import BEGIN, find_show, put_file
 from cueplayer_tools.keeper.streams import reason
-
-
-def put_aside(folder: Folder, name: str, why: str) -> str:
-    """Keeps a file under another name; that name. Nothing that was kept is replaced."""
-    when = time.strftime("%Y-%m-%dT%H%M%S")
-    kept = f"{name}-{why}-{when}"
-    count = 1
-    while os.path.lexists(folder.file(kept)):
-        count += 1
-        kept = f"{name}-{why}-{when}-{count}"
-    os.rename(folder.file(name), folder.file(kept))
-    return kept
 
 
 def place_of(cue: str | None) -> str:
@@ -39,4 +27,4 @@ def begin_anew(folder: Folder, named: str, told: str) -> tuple[bool, str]:
         with contextlib.suppress(OSError):
             os.unlink(folder.file(BEGIN))
         return False, f"{told}: cannot put {folder.file('record')} aside: {reason(fault)}; {AGAIN}"
-    return True, f"{told}: the night begins anew {place_of(cue)}; the record is kept as {kept}"
+    return True, f"{told}: the night starts again {place_of(cue)}; the record is kept as {kept}"

@@ -4,6 +4,8 @@ import re
 import signal
 import time
 
+from cueplayer_tools.keeper.states import state_of
+
 # What stands in the replies where `live` was refused for want of its network card or its route,
 # which come with the network.
 _CARD = re.compile(
@@ -51,8 +53,10 @@ class Ending:
     """A `live` that has ended: its process, its status where that is known, and what was told
     from its start on."""
 
-    def __init__(self, number: int, status: int | None, told: bytes) -> None:
+    def __init__(self, number: int, status: int | None, told: bytes, has_played: bool) -> None:
         self.number, self.status, self.told = number, status, told
+        # Whether its keeper has seen it play: what it told may be gone with its folder.
+        self.has_played = has_played
 
     def words(self) -> str:
         """How it ended."""
@@ -69,7 +73,7 @@ class Ending:
 
     def has_begun(self) -> bool:
         """Whether it played: another keeper's did."""
-        return self.status is None or self.has_told(_BEGUN)
+        return self.status is None or self.has_played or self.has_told(_BEGUN)
 
     def wants_card(self) -> bool:
         """Whether it was refused since its network is not there."""
@@ -106,6 +110,9 @@ class Ending:
             return f"{told}; it looks every second"
         if self._is_cid():
             return f"another live has this CID: end that one; {AGAIN}"
+        if (holder := self._holder()) is not None:
+            told = f"process {holder} has the lock of the record"
+            return f"{told}: end that one, `kill {holder}`; {AGAIN}"
         if self.has_told(b"record: in use"):
             told = "the record is still written for a live that is gone"
             return f"{told}: the disk stalls, or is slow; {AGAIN}"
@@ -117,6 +124,12 @@ class Ending:
             told = f"live refused to begin, with status {self.status}"
             return f"{told}: the lines above say why; {AGAIN}"
         return f"{self.words()} before it played: the lines above say why; {AGAIN}"
+
+    def _holder(self) -> int | None:
+        """The process that has the lock of the record, where that runs."""
+        found = re.search(rb"(?m)^record: in use by process (\d+)", self.told)
+        number = None if found is None else int(found[1])
+        return number if number is not None and state_of(number) else None
 
     def _is_cid(self) -> bool:
         return self.has_told(b"another console on this machine sends under this CID")

@@ -4,7 +4,8 @@ import contextlib
 import os
 
 from cueplayer_tools.keeper.folder import open_file
-from cueplayer_tools.keeper.processes import LOOK_EVERY, wait_for
+from cueplayer_tools.keeper.processes import LOOK_EVERY
+from cueplayer_tools.keeper.waiting import wait_for
 
 _MOST = 65_536
 # What Linux calls IN_MODIFY.

@@ -10,8 +10,11 @@ import time
 
 from cueplayer_tools.keeper.commands import ask
 from cueplayer_tools.keeper.folder import Folder
-from cueplayer_tools.keeper.players import find_keeper, find_live, find_spare, reads_record
-from cueplayer_tools.keeper.stand_still import state_of, work_of
+from cueplayer_tools.keeper.own_record import FULL
+from cueplayer_tools.keeper.players import find_keeper, find_live, find_spare
+from cueplayer_tools.keeper.players import has_record_open, reads_record
+from cueplayer_tools.keeper.stand_still import work_of
+from cueplayer_tools.keeper.states import state_of
 from cueplayer_tools.keeper.troubles import (
     KEEPER,
     LATELY,
@@ -68,7 +71,10 @@ class Health:
         while self.folder.size("record") == size and time.monotonic() < until:
             time.sleep(_LOOK_EVERY)
         named = f"live (process {live})"
-        if self.folder.size("record") == size:
+        if not has_record_open(self.folder, live):
+            told = f"the record is not the one that {named} writes: that has lost its name"
+            self.trouble.append(Trouble(RECORD, None, told))
+        elif self.folder.size("record") == size:
             if not state_of(live):
                 self.trouble.append(Trouble(LIGHT, None, f"{named} has just ended"))
             elif state_of(live) in ("T", "t", "D") or work_of(live) == work:
@@ -76,7 +82,10 @@ class Health:
             else:
                 told = f"the record does not grow, and {named} plays on"
                 self.trouble.append(Trouble(RECORD, None, told))
-        elif self.place is None:
+        elif free_room(self.folder) < FULL:
+            told = "the disk of the night is full: make room"
+            self.trouble.append(Trouble(RECORD, None, told))
+        elif self.place is None and state_of(live):
             self.trouble.append(Trouble(OTHER, None, f"{named} does not answer"))
 
     def _look_at_others(self) -> None:
@@ -126,6 +135,15 @@ class Health:
             "trouble": [each._asdict() for each in self.trouble],
             "last": self.events,
         }
+
+
+def free_room(folder: Folder) -> int:
+    """How many bytes are free on the disk of a night."""
+    try:
+        disk = os.statvfs(folder.path)
+    except OSError:
+        return FULL
+    return disk.f_bavail * disk.f_frsize
 
 
 def _written(folder: Folder, name: str) -> str | None:

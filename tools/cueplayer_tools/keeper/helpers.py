@@ -11,8 +11,9 @@ from collections.abc import Callable
 
 from cueplayer_tools.keeper.folder import Folder
 from cueplayer_tools.keeper.growth import Follower
-from cueplayer_tools.keeper.processes import Starter, wait_for
+from cueplayer_tools.keeper.processes import Starter
 from cueplayer_tools.keeper.streams import write_all
+from cueplayer_tools.keeper.waiting import wait_for
 
 # For how long what was told last may still be shown at the end, in seconds.
 _LAST = 0.2

@@ -7,12 +7,14 @@ import time
 
 from cueplayer_tools.keeper.folder import Folder, whole_path
 from cueplayer_tools.keeper.locks import await_lock, is_locked
+from cueplayer_tools.keeper.own_record import SECOND, forget_second_name
 from cueplayer_tools.keeper.players import find_live
 from cueplayer_tools.keeper.show_copy import BEGIN, NEXT
 from cueplayer_tools.keeper.streams import Failure, has_control, reason, refusal
 
 # The files of a night, and what those begin with that were kept.
 _NAMES = ("night", "in", "replies", "lock", "pid", "spare", "record", "show", "show.next", "begin")
+_OURS = (*_NAMES, SECOND)
 # For how long a keeper may take to go once its night has ended, in seconds.
 _PATIENCE = 1.0
 
@@ -44,6 +46,7 @@ def _put_aside(folder: Folder) -> None:
     """The record and the replies of a night that has ended are kept under names of their own."""
     written = time.localtime(os.stat(folder.file("record")).st_mtime)
     when = time.strftime("%Y-%m-%dT%H%M%S", written)
+    forget_second_name(folder)
     for name in ("record", "replies"):
         if os.path.exists(folder.file(name)):
             try:
@@ -56,6 +59,12 @@ def _put_aside(folder: Folder) -> None:
 def _write(path: str, content: bytes) -> None:
     with open(path, "wb") as file:
         file.write(content)
+
+
+def write_words(folder: Folder, words: list[str]) -> None:
+    """Gives a folder the words of `live`, at once."""
+    _write(folder.file("night.new"), b"".join(os.fsencode(word) + b"\n" for word in words))
+    os.rename(folder.file("night.new"), folder.file("night"))
 
 
 def make_folder(folder: Folder, words: list[str]) -> None:
@@ -78,8 +87,7 @@ def make_folder(folder: Folder, words: list[str]) -> None:
         told = f"the night in {folder.path} has begun with other words"
         raise Failure(f"{told}: `start` alone goes on with it")
     try:
-        _write(folder.file("night.new"), b"".join(os.fsencode(word) + b"\n" for word in words))
-        os.rename(folder.file("night.new"), folder.file("night"))
+        write_words(folder, words)
     except OSError as fault:
         raise Failure(f"cannot write {folder.file('night')}: {reason(fault)}") from fault
     make_files(folder)
@@ -95,7 +103,7 @@ def _close(folder: Folder) -> None:
     """Takes the files of a night from others, as an older version left them, and the folder where
     it has nothing else."""
     names = os.listdir(folder.path)
-    ours = [name for name in names if name.partition("-")[0] in _NAMES]
+    ours = [name for name in names if name.partition("-")[0] in _OURS]
     for name in ours if len(ours) < len(names) else [*ours, ""]:
         path = folder.file(name)
         mode = stat.S_IMODE(os.lstat(path).st_mode)

@@ -13,17 +13,20 @@ from typing import NamedTuple
 from cueplayer_tools.keeper.anew import begin_anew
 from cueplayer_tools.keeper.endings import Ending, Pace, is_same
 from cueplayer_tools.keeper.folder import Folder, open_file
+from cueplayer_tools.keeper.folder_again import FolderAgain
 from cueplayer_tools.keeper.growth import Growth
 from cueplayer_tools.keeper.guard import Guard
 from cueplayer_tools.keeper.helpers import Helpers
 from cueplayer_tools.keeper.locks import await_lock, take_lock, write_number
+from cueplayer_tools.keeper.own_record import forget_second_name
 from cueplayer_tools.keeper.players import find_keeper, find_live
-from cueplayer_tools.keeper.processes import Process, Starter, find_policy, set_policy, wait_for
+from cueplayer_tools.keeper.processes import Process, Starter, find_policy, set_policy
 from cueplayer_tools.keeper.spare import Spare
 from cueplayer_tools.keeper.stand_still import LOOK_EVERY
 from cueplayer_tools.keeper.streams import Failure
 from cueplayer_tools.keeper.unread import Unread
 from cueplayer_tools.keeper.update import take_update
+from cueplayer_tools.keeper.waiting import wait_for
 
 # How often lines are looked for that `live` has not read.
 _LOOK_EVERY = 0.03
@@ -74,7 +77,7 @@ class KeptNight:
         self.growth = Growth(folder.file("in"))
         found = find_live(folder)
         self.spare = Spare(folder, starter, self.tell)
-        self.guard = Guard(folder, self.spare, self.unread, self.tell)
+        self.guard = Guard(folder, starter, self.spare, self.unread, self.tell)
         # Where the replies stood as `live` was started, whether it has begun, and whether there
         # was one that played.
         self.mark = 0
@@ -82,14 +85,19 @@ class KeptNight:
         # Why `live` did not begin, and what it said then; None and nothing where it did.
         self.trouble: str | None = None
         self.said: bytes | None = None
+        self.folder_again = FolderAgain(folder, starter.words)
         told = None if found is not None else take_update(folder, starter.words[0])
         self.live = self._start_live() if found is None else self._adopt(found)
         if told is not None:
             self.tell(told)
+        if found is not None:
+            self.folder_again.remember()
 
     def tell(self, text: str) -> None:
         """Tells what happened, in the replies and on standard error."""
         self.helpers.tell(self.folder.note(text))
+        if not self.is_begun:
+            self.guard.service.tell(text)
 
     def _write_number(self, number: int) -> None:
         try:
@@ -135,6 +143,7 @@ class KeptNight:
         if self.trouble is not None:
             self.tell(f"live (process {self.live.number}) plays again")
         self.trouble = self.said = None
+        self.folder_again.remember()
 
     def _wait(self) -> None:
         """Waits until a process has ended, or something was written: then it is looked at 30 ms
@@ -161,33 +170,60 @@ class KeptNight:
                 self.spare.keep()
                 self.guard.look(self.live, self.spare.refused is None or self.options.begins)
             self._wait()
+        put_back = self.guard.put_back(self.live.number, self._make_folder_again)
+        self.guard.let_go_on(self.live.number)
         status = self.live.status()
         if status == 0:
             # The night is over. Without the end in its record the spare would go on.
             self.spare.put_down()
-        goes_on = self.spare.await_light()
+        goes_on = self.spare.await_light(self.live.number)
+        if put_back is not None:
+            self.tell(put_back)
         if not goes_on:
+            self._leave_strangers_lock()
             if self.folder.is_file("record"):
                 await_lock(self.folder, "record", _LOCK_PATIENCE)
             if status is not None and 0 < status < 128:
                 # What it said last is still on the way to the replies.
                 time.sleep(_LAST)
         told = self.folder.read("replies", self.mark, _MOST_TOLD)
-        return Ending(self.live.number, status, told), goes_on
+        return Ending(self.live.number, status, told, self.is_begun), goes_on
+
+    def _make_folder_again(self) -> None:
+        self.folder_again.make()
+        self.growth.close()
+        self.growth = Growth(self.folder.file("in"))
+
+    def _leave_strangers_lock(self) -> None:
+        """Goes on in a copy of a record whose lock somebody has who has no business with it."""
+        stranger = self.spare.find_stranger(self.live.number)
+        if stranger is not None and self.is_begun:
+            told = f"process {stranger} has the lock of the record, and does not play"
+            copied = self.guard.copy_record(self.live.number)
+            self.tell(f"{told}: {copied}; end it")
 
     def _promote(self, ending: Ending, process: Process) -> None:
         """Makes the spare that goes on the `live` of the night."""
         set_policy(process.number, self.policy)
+        goes_on = self._goes_on()
         self.live, self.mark = process, self.spare.mark
         self._write_number(process.number)
-        self.tell(f"{ending.words()}: the spare (process {process.number}) goes on where it was")
+        self.tell(f"{ending.words()}: the spare (process {process.number}) {goes_on}")
+
+    def _goes_on(self) -> str:
+        """Where the night goes on: a record that broke off has not all of it."""
+        age = self.guard.age(self.live.number)
+        if not age:
+            return "goes on where it was"
+        return f"goes on where its record ends, {age:.0f} s earlier: look which cue is on"
 
     def _start_again(self, ending: Ending) -> None:
         """Starts `live` again, at once or a second behind its last start, and tells why, once."""
         if ending.has_begun():
             time.sleep(self.pace.left())
+            goes_on = self._goes_on()
             self.live, self.trouble = self._start_live(), None
-            self.tell(f"{ending.words()}: it is started again, and goes on where it was")
+            self.tell(f"{ending.words()}: it is started again, and {goes_on}")
             return
         is_anew, trouble = self._find_trouble(ending)
         if not is_same(trouble, self.trouble):
@@ -223,6 +259,8 @@ class KeptNight:
             end = ending.refusal(self.folder.has_record())
         if end is not None:
             self.tell(end)
+            if self.folder.has_ended():
+                forget_second_name(self.folder)
             return False
         self.has_played = True
         self._start_again(ending)
@@ -242,6 +280,7 @@ class KeptNight:
             if goes_on and process is not None:
                 self._promote(ending, process)
             elif not self._go_on(ending):
+                self.guard.service.end()
                 return ending.status or 0
 
 

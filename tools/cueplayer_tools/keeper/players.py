@@ -70,36 +70,46 @@ def find_spare(folder: Folder) -> int | None:
     return found if is_live(folder, found) and found != find_live(folder) else None
 
 
-def reads_record(folder: Folder, number: int) -> bool:
-    """Whether a process has the record open to read it, as the script that starts the program has
-    not."""
+def has_record_open(folder: Folder, number: int, reads: bool = False) -> bool:
+    """Whether a process has the record open, or has it open to read."""
     # A file may be closed meanwhile, and the process be another user's.
     with contextlib.suppress(OSError):
         record = os.stat(folder.file("record"))
         for name in os.listdir(f"/proc/{number}/fd"):
             with contextlib.suppress(OSError, ValueError):
                 if os.path.samestat(os.stat(f"/proc/{number}/fd/{name}"), record):
-                    with open(f"/proc/{number}/fdinfo/{name}", encoding="ascii") as file:
-                        flags = int(file.read().partition("flags:")[2].split()[0], 8)
-                    if flags & os.O_ACCMODE != os.O_WRONLY:
+                    if not reads or _is_read(number, name):
                         return True
     return False
 
 
-def find_writer(folder: Folder, live: int) -> int | None:
-    """The process that writes the record for `live`, of which it is a child; None where none
-    does. A spare has one too."""
+def _is_read(number: int, name: str) -> bool:
+    with open(f"/proc/{number}/fdinfo/{name}", encoding="ascii") as file:
+        flags = int(file.read().partition("flags:")[2].split()[0], 8)
+    return flags & os.O_ACCMODE != os.O_WRONLY
+
+
+def reads_record(folder: Folder, number: int) -> bool:
+    """Whether a process has the record open to read it, as the script that starts the program has
+    not."""
+    return has_record_open(folder, number, True)
+
+
+def find_writer(live: int) -> int | None:
+    """The process that writes the record for `live`: it reads the pipe that `live` was given; None
+    where none does."""
     try:
-        record = os.stat(folder.file("record"))
-    except OSError:
+        with open(f"/proc/{live}/environ", "rb") as file:
+            words = dict(each.partition(b"=")[::2] for each in file.read().split(b"\0"))
+        name = os.path.basename(os.fsdecode(words[b"CUEPLAYER_RECORD_PIPE"]))
+        pipe = os.stat(f"/proc/{live}/fd/{name}")
+    except (OSError, KeyError):
         return None
-    for name in filter(str.isdigit, os.listdir("/proc")):
+    for number in filter(str.isdigit, os.listdir("/proc")):
         # It may end meanwhile, or be another user's.
-        with contextlib.suppress(OSError, IndexError):
-            if os.path.samestat(os.stat(f"/proc/{name}/fd/1"), record):
-                with open(f"/proc/{name}/stat", "rb") as file:
-                    if int(file.read().rpartition(b") ")[2].split()[1]) == live:
-                        return int(name)
+        with contextlib.suppress(OSError):
+            if os.path.samestat(os.stat(f"/proc/{number}/fd/0"), pipe):
+                return int(number)
     return None
 
 

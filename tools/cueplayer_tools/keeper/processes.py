@@ -2,17 +2,20 @@
 
 import contextlib
 import os
-import select
 import signal
 import time
 from collections.abc import Iterator
 
+from cueplayer_tools.keeper.consoles import await_free
 from cueplayer_tools.keeper.folder import Folder, open_file
 from cueplayer_tools.keeper.locks import write_number
+from cueplayer_tools.keeper.pipes import Pipes
 from cueplayer_tools.keeper.players import is_live
 from cueplayer_tools.keeper.relay import Relay
 from cueplayer_tools.keeper.show_copy import begin_cue, find_show
 from cueplayer_tools.keeper.streams import Failure, reason, write_all
+from cueplayer_tools.keeper.waiting import wait_for
+from cueplayer_tools.keeper.writers import start_writer, write_record, write_replies
 
 # A policy of real time, and its priority.
 Policy = tuple[int, int]
@@ -20,6 +23,8 @@ Policy = tuple[int, int]
 LOOK_EVERY = 0.02
 # For how long a process may take to end by itself, and once it was killed.
 _PATIENCE, _KILLED = 2.0, 1.0
+# How `live` ends where another console has its CID.
+_DEVICE_FAULT = 5
 # What would have a shell do other things than its script says.
 _OF_SHELLS = ("SHELLOPTS", "BASHOPTS", "BASH_ENV", "ENV")
 
@@ -96,14 +101,6 @@ class Process:
             self.descriptor = None
 
 
-def wait_for(descriptors: list[int], seconds: float) -> list[int]:
-    """Those of the descriptors that are ready, once one is, or behind so many seconds."""
-    poll = select.poll()
-    for each in descriptors:
-        poll.register(each, select.POLLIN)
-    return [each for each, _ in poll.poll(round(1000 * seconds))]
-
-
 @contextlib.contextmanager
 def _without_terminate() -> Iterator[None]:
     """Holds SIGTERM back, so that no child gets it with this process's handler."""
@@ -122,6 +119,8 @@ class Starter:
         self.folder, self.program, self.words = folder, program, words
         # What no child may keep open.
         self.lock: int | None = None
+        # The processes that write for a `live`, until they have ended.
+        self.writers: list[int] = []
 
     def fork(self) -> int:
         """The number of the child, or 0 in it: SIGTERM ends that, and the lock is not its own.
@@ -168,10 +167,11 @@ class Starter:
         record = ["--record", self.folder.file("record"), "--resume"]
         words = [self.program, "live", *self._given(bool(options)), *options, *record]
         relay = None if known is None else self._start_relay(known)
+        pipes = self._open_pipes(not options)
         number = self.fork()
         if not number:
             try:
-                self._become(name, words, bool(options), relay)
+                self._become(name, words, bool(options), relay, pipes)
             except OSError as fault:
                 fault_line = f"cueplayer-night: cannot start {self.program}: {reason(fault)}\n"
                 with contextlib.suppress(OSError):
@@ -179,11 +179,44 @@ class Starter:
             finally:
                 os._exit(127)
         process = Process(self.folder, number, True)
+        if pipes is not None:
+            pipes.close()
         if relay is not None:
             os.close(relay.source)
             os.close(relay.sink)
             process.relay = relay
         return process
+
+    def _open_pipes(self, may_make: bool) -> Pipes | None:
+        """With those who write. None where the system has no room for them: the script that starts
+        the program then starts what writes its files."""
+        try:
+            pipes = Pipes(self.folder, may_make)
+        except OSError:
+            return None
+        # Before `live`: where the keeper is killed in between, no line is without a writer.
+        if pipes.record is not None and pipes.file is not None:
+            self.write_record(pipes.record[0], pipes.file)
+        self.write_replies(pipes.replies[0])
+        return pipes
+
+    def write_record(self, source: int, file: int) -> None:
+        """Starts a process that writes a record."""
+        write = lambda: write_record(self.folder, source, file)
+        self.writers.append(start_writer(self.fork, write))
+
+    def write_replies(self, source: int) -> None:
+        """Starts a process that writes the replies."""
+        write = lambda: write_replies(self.folder, source)
+        self.writers.append(start_writer(self.fork, write))
+
+    def reap(self) -> None:
+        """Asks for the status of writers that have ended."""
+        for number in list(self.writers):
+            with contextlib.suppress(OSError):
+                if not os.waitpid(number, os.WNOHANG)[0]:
+                    continue
+            self.writers.remove(number)
 
     def _start_relay(self, known: bytes) -> Relay | None:
         try:
@@ -199,7 +232,9 @@ class Starter:
                 os._exit(1)
         return relay
 
-    def _become(self, name: str, words: list[str], is_usual: bool, relay: Relay | None) -> None:
+    def _become(
+        self, name: str, words: list[str], is_usual: bool, relay: Relay | None, pipes: Pipes | None
+    ) -> None:
         """Makes this child the process."""
         with contextlib.suppress(OSError):
             file = open_file(self.folder.file(name), os.O_RDWR | os.O_CREAT)
@@ -213,9 +248,29 @@ class Starter:
             os.dup2(file, place)
         if is_usual and find_policy() is not None:
             set_policy(0, (os.SCHED_OTHER, 0))
+        if not is_usual:
+            self._refuse_second()
         signal.signal(signal.SIGXFSZ, signal.SIG_DFL)
         kept = {key: value for key, value in os.environ.items() if key not in _OF_SHELLS}
+        if pipes is not None:
+            pipes.become()
+            kept |= pipes.environment
+            if relay is None:
+                kept["CUEPLAYER_ERROR_PIPE"] = kept["CUEPLAYER_OUTPUT_PIPE"]
         os.execve(self.program, words, kept)
+
+
+    def _refuse_second(self) -> None:
+        """Ends this child, as `live` ends by its lock, where another console has its CID."""
+        places = [at for at, word in enumerate(self.words) if word.partition("=")[0] == "--cid"]
+        for at in places:
+            _, joined, value = self.words[at].partition("=")
+            cid = value if joined else "".join(self.words[at + 1 : at + 2])
+            found = await_free(cid, self.folder) if cid else None
+            if found is not None:
+                told = "another console on this machine sends under this CID: process"
+                write_all(2, os.fsencode(f"{told} {found}\n"))
+                os._exit(_DEVICE_FAULT)
 
 
 def _is_gone(number: int) -> bool:
@@ -238,6 +293,13 @@ def _is_gone_within(number: int, descriptor: int | None, seconds: float) -> bool
             return False
         time.sleep(LOOK_EVERY)
     return True
+
+
+def await_gone(numbers: list[int]) -> None:
+    """Waits for processes that end by themselves, a second at most."""
+    until = time.monotonic() + _KILLED
+    while any(not _is_gone(each) for each in numbers) and time.monotonic() < until:
+        time.sleep(LOOK_EVERY)
 
 
 def put_down(number: int | None) -> None:

@@ -10,14 +10,19 @@ from collections.abc import Callable
 from cueplayer_tools.keeper.endings import Pace
 from cueplayer_tools.keeper.folder import Folder
 from cueplayer_tools.keeper.locks import find_holder, is_locked
-from cueplayer_tools.keeper.players import find_spare
-from cueplayer_tools.keeper.processes import LOOK_EVERY, Process, Starter, wait_for
-from cueplayer_tools.keeper.stand_still import STANDS, state_of
+from cueplayer_tools.keeper.players import find_spare, is_live
+from cueplayer_tools.keeper.processes import LOOK_EVERY, Process, Starter
+from cueplayer_tools.keeper.stand_still import STANDS
+from cueplayer_tools.keeper.states import name_of, state_of, time_of
+from cueplayer_tools.keeper.waiting import wait_for
 
 _GOES_ON = re.compile(rb"^record: .*, goes on at ", re.MULTILINE)
 # For how long a spare may take to go on once nobody else has the record, in seconds; from when on
 # it is told that somebody has.
 _PATIENCE, _TOLD = 3.0, 1.0
+# What the system says of a process that was stopped or is traced, and how long one may stay so that
+# is to go on, in seconds.
+_STOPPED, _LONGEST_STOP = ("T", "t"), 0.3
 # What a spare that is refused took of a processor is at most this share of the time.
 _SHARE = 0.1
 # How much of the replies is looked through at once; a line is shorter than what is looked at twice.
@@ -67,7 +72,7 @@ class Spare:
     def _end_stopped(self, number: int) -> None:
         """Ends it where it has been stopped for a second: it would not go on."""
         now = time.monotonic()
-        if state_of(number) not in ("T", "t"):
+        if state_of(number) not in _STOPPED:
             self.stopped = None
         elif self.stopped is None:
             self.stopped = now
@@ -84,9 +89,11 @@ class Spare:
         process = self.take()
         if process is None:
             return
+        # Its life may have been long, and what it took of a processor short.
+        took = time_of(process.number)
         status, number = process.status(), process.number
         if status in range(1, 8):
-            self.took = time.monotonic() - self.began
+            self.took = took
             if self.refused is None or process.has_news:
                 self.refused = self.folder.read("replies", self.mark, _PART)
                 told = "no spare stands by, as the lines above say: if live dies, it is started"
@@ -111,7 +118,18 @@ class Spare:
         record = self.folder.file("record")
         return is_locked(self.folder, "record") and find_holder(record) != number
 
-    def await_light(self) -> bool:
+    def find_stranger(self, gone: int) -> int | None:
+        """A process that has the record's lock, though it neither plays the night nor writes for a
+        `live` that is gone: any that may read a file can take its lock."""
+        found = find_holder(self.folder.file("record"))
+        own = {gone, os.getpid(), *self.starter.writers}
+        own |= set() if self.process is None else {self.process.number}
+        if found is None or found in own or name_of(found).startswith("record-"):
+            return None
+        is_there = state_of(found) not in ("", "Z") and not is_live(self.folder, found)
+        return found if is_there else None
+
+    def await_light(self, gone: int) -> bool:
         """Waits until it goes on with the night, or has ended as the night has; whether it goes
         on. One that does neither is ended; but what wrote the record for a `live` that is gone may
         wait for the disk, and so does the spare."""
@@ -123,9 +141,11 @@ class Spare:
                 # The next one stands by at once.
                 self.pace = Pace()
                 return True
-            if has_ended:
+            if has_ended or not self._lets_go_on(self.process.number, began):
                 break
             if self._is_held_by_another(self.process.number):
+                if self.find_stranger(gone) is not None:
+                    break
                 until = time.monotonic()
                 if until - began > _TOLD and not is_told:
                     is_told = True
@@ -134,6 +154,14 @@ class Spare:
             wait_for(self.process.descriptors(), LOOK_EVERY / 2)
         self.put_down()
         return False
+
+    def _lets_go_on(self, number: int, began: float) -> bool:
+        """Has it go on where it was stopped; whether it may still do so."""
+        if state_of(number) not in _STOPPED:
+            return True
+        with contextlib.suppress(OSError):
+            os.kill(number, signal.SIGCONT)
+        return time.monotonic() < began + _LONGEST_STOP
 
     def put_down(self) -> None:
         """Ends it."""

@@ -9,23 +9,18 @@ for swapped memory (D), or sleeps and is not woken, and takes no time of a proce
 import time
 
 from cueplayer_tools.keeper.folder import Folder
+from cueplayer_tools.keeper.own_record import OwnRecord
+from cueplayer_tools.keeper.states import state_of
 
 # How often it is looked at, and for how long it may stand, in seconds: a spare then goes on before
 # receivers let go, 2.5 s behind the last packet.
 LOOK_EVERY, STANDS = 0.1, 1.0
+# One that a signal has stopped goes on by no means of its own.
+_STOPPED = 0.5
 # A look that comes so late says that the keeper itself stood still, and maybe the whole machine.
 _LATE = 0.2
 # From when on it is told that ticks were late, and that a record does not grow.
-_LATE_TICKS, _BROKEN = 0.5, 2.0
-
-
-def state_of(number: int) -> str:
-    """The state of a process, as /proc/PID/stat has it; nothing where it is not to be had."""
-    try:
-        with open(f"/proc/{number}/stat", "rb") as file:
-            return file.read().rpartition(b") ")[2][:1].decode("ascii", "replace")
-    except OSError:
-        return ""
+_LATE_TICKS, _BROKEN = 0.5, 0.8
 
 
 def work_of(number: int) -> bytes:
@@ -47,22 +42,30 @@ class Watch:
     """Looks at a `live` that has begun."""
 
     def __init__(self, folder: Folder, number: int) -> None:
-        self.folder, self.number = folder, number
+        self.number, self.record = number, OwnRecord(folder, number)
         # When it was looked at, when the record grew, when the process ran, and when it last ran
         # or waited for a processor.
         self.looked = self.grown = self.moved = self.ran = time.monotonic()
         self.size, self.work = -1, b""
         # For how long ticks were late until this look, in seconds.
         self.late = 0.0
+        # Whether a tick was seen at this look.
+        self.ticks = False
+        # Whether it became shorter, and since when a signal has it stopped.
+        self.was_cut = False
+        self.stopped: float | None = None
 
     def look(self) -> None:
         """Notes what is to be seen now."""
         now = time.monotonic()
         # Who stood still itself gives a full second more.
         is_own_stall = now - self.looked > LOOK_EVERY + _LATE
-        size, work, state = self.folder.size("record"), work_of(self.number), state_of(self.number)
+        size, work, state = self.record.size(), work_of(self.number), state_of(self.number)
         has_grown = size != self.size
+        self.was_cut = self.was_cut or size < self.size
+        self.stopped = None if state != "T" or is_own_stall else self.stopped or now
         has_moved = has_grown or (work != self.work and state not in ("T", "t", "D"))
+        self.ticks = has_moved and self.size >= 0
         self.late = now - self.moved if has_moved and not is_own_stall else 0.0
         if has_grown or is_own_stall:
             self.grown = now
@@ -74,13 +77,18 @@ class Watch:
         self.looked, self.size, self.work = now, size, work
 
     def stands_still(self) -> bool:
-        """Whether neither the record grew nor the process ran for a second."""
-        return self.looked - max(self.grown, self.ran) >= STANDS
+        """Whether neither the record grew nor the process ran for a second, or for half of one
+        where it is stopped."""
+        patience = STANDS if self.stopped is None else _STOPPED
+        return self.looked - max(self.grown, self.ran) >= patience
 
     def is_broken(self) -> bool:
         """Whether the record does not grow though the process runs."""
-        return self.looked - self.grown >= _BROKEN and self.looked - self.ran < STANDS
+        return self.looked - self.grown >= _BROKEN and self.looked - self.ran < _LATE_TICKS
 
     def was_late(self) -> bool:
         """Whether it has run again only now."""
         return self.late >= _LATE_TICKS
+
+    def close(self) -> None:
+        self.record.close()

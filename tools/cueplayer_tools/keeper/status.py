@@ -7,8 +7,9 @@ import time
 from cueplayer_tools.keeper.folder import UNSEEN, Folder
 from cueplayer_tools.keeper.growth import Follower
 from cueplayer_tools.keeper.health import Health
+from cueplayer_tools.keeper.pipes import find_writers
 from cueplayer_tools.keeper.players import await_start, find_keeper, find_live, find_spare
-from cueplayer_tools.keeper.processes import put_down
+from cueplayer_tools.keeper.processes import await_gone, put_down
 from cueplayer_tools.keeper.streams import Failure, complain, reason, refusal, show, show_line
 
 # How many of the last lines `watch` begins with, and how often it looks for another file.
@@ -65,8 +66,11 @@ def halt_night(folder: Folder) -> int:
         raise Failure(f"nothing plays the night in {folder.path}")
     put_down(find_keeper(folder))
     await_start(folder)
-    put_down(find_spare(folder))
-    put_down(find_live(folder))
+    playing = [each for each in (find_spare(folder), find_live(folder)) if each is not None]
+    writers = [each for number in playing for each in find_writers(number)]
+    for number in playing:
+        put_down(number)
+    await_gone(writers)
     show_line(folder.note("halted, and not over: `start` goes on with it"))
     return 0
 

@@ -10,7 +10,7 @@ from typing import NamedTuple
 from cueplayer_tools.keeper.folder import Folder
 
 LIGHT, RECORD, SPARE, KEEPER, OTHER = "light", "record", "spare", "keeper", "other"
-_RESTART = re.compile(rb"night: .* goes on where it was")
+_RESTART = re.compile(rb"night: .* goes on where (?:it was|its record ends)")
 # What tells of no trouble: answers, and what is said at a start.
 _USUAL = re.compile(
     rb"[0-9]+ (?:ok|refused|cue|where|live)\b|line refused: |keys ignored"
@@ -38,9 +38,13 @@ _OPENS = [
     (LIGHT, "start", rb"live waits for its network card()|live refused to begin()"),
     (LIGHT, "start", rb"live \(process \d+\) .* before it played()|another live has this CID()"),
     (LIGHT, "start", rb"the record is still written for a live that is gone()"),
+    (LIGHT, "start", rb"process \d+ has the lock of the record(): end that one"),
     (LIGHT, "start", rb".*: cannot put .* aside: ()"),
     (LIGHT, "still", rb"live \(process \d+\) stands still()"),
     (RECORD, "grows", rb"the record does not grow, and live()"),
+    (RECORD, "name", rb"the record has lost its name()"),
+    (RECORD, "cut", rb"the record was cut, or written over()"),
+    (RECORD, "room", rb"the disk of the night is full()"),
     (SPARE, "spare", rb"no spare stands by, as the lines above say()"),
     (OTHER, "update", rb"the updated show is not played: ()|cue \S+ is on, and the updated show()"),
 ]
@@ -50,8 +54,10 @@ _CLOSES = [
     ("route", rb"the route to (\S+) leads by \S+$"),
     ("answer", rb"(\S+) answers$"),
     ("late", rb"record: (?:whole again|goes on, )()"),
-    ("still", rb"live \(process \d+\) (?:runs again|plays again)()|live .* goes on where it was()"),
+    ("still", rb"live \(process \d+\) (?:runs again|plays again)()|live .* goes on where it()"),
     ("grows", rb"the record grows again()$"),
+    ("name", rb"the record has its name again()$|.*the record is put back()$"),
+    ("room", rb"the disk of the night has room again()$"),
     ("spare", rb"a spare stands by again()$"),
 ]
 _OPENING = [(kind, name, re.compile(form)) for kind, name, form in _OPENS]
@@ -116,16 +122,17 @@ class Story:
         """Forgets what is over by this line."""
         if _FIRST.match(line):
             # What it finds wrong it tells anew.
-            self._forget("link", "address", "route", "answer", "file", "late", "replies", "grows")
+            self._forget("link", "address", "route", "answer", "file", "late", "replies")
+            self._forget("grows", "name")
             self.lost = None
         if _PLAYS.match(line):
             self._forget("start", "still")
         if _KEEPS.match(text):
-            self._forget("start", "still", "spare", "grows", "update")
+            self._forget("start", "still", "spare", "grows", "update", "name", "cut", "room")
         if _FROM.match(text):
             self._forget("route")
         if b"; the record is kept as record-" in text or b"its record is kept as record-" in text:
-            self._forget("lines", "spare", "update")
+            self._forget("lines", "spare", "update", "cut", "name")
         for name, form in _CLOSING:
             if closed := form.match(text):
                 self.open.pop((name, _name_in(closed)), None)

@@ -1,6 +1,6 @@
 """Another show for a night that has begun: it is checked at once, and counts from the next `start`.
 
-The program takes up a record with the show of that record alone. So the night begins anew in the
+The program takes up a record with the show of that record alone. So the night starts again in the
 cue in which it is then: receivers hold the light from `halt` to `start`.
 """
 
@@ -8,7 +8,8 @@ import os
 import subprocess
 
 from cueplayer_tools.cue_list import read_show
-from cueplayer_tools.keeper.anew import place_of, put_aside
+from cueplayer_tools.keeper.anew import place_of
+from cueplayer_tools.keeper.aside import put_aside
 from cueplayer_tools.keeper.folder import Folder, whole_path
 from cueplayer_tools.keeper.last_cue import find_cue
 from cueplayer_tools.keeper.show_copy import BEGIN, COPY, NEXT, find_show, put_file, read_show_file
@@ -52,7 +53,7 @@ def update_night(folder: Folder, given: list[str], program: str) -> int:
         told = f"cannot write {folder.file(NEXT)}: {reason(fault)}; {_UNCHANGED}"
         raise Failure(told) from fault
     place = place_of(None if cue is None else cue_word(cue))
-    begins = f"the night begins anew with it at the next `start`, {place} if that is on then"
+    begins = f"the night starts again with it at the next `start`, {place} if that is on then"
     show_line(f"{path} is kept: {begins}; `halt`, `start` and a restart of the desks do that now")
     return 0
 
@@ -79,4 +80,4 @@ def take_update(folder: Folder, named: str) -> str | None:
         why = reason(fault) if isinstance(fault, OSError) else str(fault)
         return f"the updated show is not played: {why}; the night goes on as it was"
     place = place_of(word or None)
-    return f"the night begins anew {place}, with the updated show; its record is kept as {kept}"
+    return f"the night starts again {place}, with the updated show; its record is kept as {kept}"

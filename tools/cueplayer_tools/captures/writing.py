@@ -1,4 +1,4 @@
-"""Captures in the format pcapng: UDP over IPv4 over Ethernet, made of what was sent."""
+"""Captures in the format pcapng: UDP over IPv4 over Ethernet, made of what was sent or heard."""
 
 import socket
 import struct
@@ -30,13 +30,17 @@ class Frame:
 
 def capture_of(frames: Iterable[Frame]) -> bytes:
     """The bytes of a capture."""
-    head = struct.pack("<IHHq", MAGIC, 1, 0, -1) + _options({PROGRAM: "cueplayer conform"})
-    ethernet = struct.pack("<HHI", ETHERNET, 0, 0)
-    blocks = [_block(SECTION, head), _block(INTERFACE, ethernet)]
-    return b"".join([*blocks, *map(_packet, frames)])
+    return b"".join([capture_head("cueplayer conform"), *map(capture_frame, frames)])
 
 
-def _packet(frame: Frame) -> bytes:
+def capture_head(program: str) -> bytes:
+    """How a capture begins that this program writes."""
+    head = struct.pack("<IHHq", MAGIC, 1, 0, -1) + _options({PROGRAM: program})
+    return _block(SECTION, head) + _block(INTERFACE, struct.pack("<HHI", ETHERNET, 0, 0))
+
+
+def capture_frame(frame: Frame) -> bytes:
+    """A frame as a capture has it behind its head."""
     data = frame_bytes(frame)
     head = struct.pack("<IIIII", 0, *divmod(frame.moment, 1 << 32), len(data), len(data))
     comment = {COMMENT: frame.comment} if frame.comment else {}

@@ -1,0 +1,1 @@
+"""Captures of a network: pcapng is written, pcap and pcapng are read."""
