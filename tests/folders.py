@@ -14,6 +14,8 @@ from program import PROGRAM, TOP, Outcome, run, text
 from tooling import PATIENCE, Lines, wait_for
 from wire import SEQUENCE, SLOT_1, ReceiverTest
 
+from cueplayer_tools.keeper.pipes import find_writers
+
 NIGHT = TOP / "cueplayer-night"
 # What a command tells behind a second in which no `live` took it or answered.
 NO_ANSWER = re.compile("no answer within a second|no live plays the night")
@@ -133,10 +135,13 @@ class FolderNightTest(ReceiverTest):
         return number
 
     def kill_all(self):
-        """Ends what keeps the night, what stands by, and what plays it."""
+        """Ends what keeps the night, what stands by, and what plays it; what it wrote is written
+        then."""
         self.spare()
+        writers = find_writers(self.number("pid"))
         for name in ("lock", "spare", "pid"):
             self.kill(name)
+        wait_for(lambda: not any(map(self.is_there, writers)), "its writers end")
 
     def replies(self):
         replies = self.night / "replies"
