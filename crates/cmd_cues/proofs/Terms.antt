@@ -35,7 +35,7 @@ pub use Rattle.cmd_cues.specs.Labels.{label_after, label_news_of, label_part, la
 pub use Rattle.cmd_cues.specs.Labels.{label_in, is_edge}
 pub use Rattle.cmd_cues.specs.LabelLines.{AreOf, label_by, label_if, last_label_by, line_news}
 pub use Rattle.cmd_cues.specs.LabelLines.{news_in}
-pub use Rattle.show.specs.Tables.{Tables}
+pub use Rattle.show_core.specs.Tables.{Tables}
 pub use Rattle.show_reader.specs.Reading.{lines_read}
 pub use Rattle.show_reader.specs.Shows.{IsShowOf}
 pub use Rattle.show_reader.proofs.OneShow.{of_its_show}

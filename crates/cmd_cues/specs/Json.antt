@@ -4,9 +4,9 @@ use Rattle.std.specs.Prelude.{codes, decimal, flat_map, Option}
 use Rattle.std.specs.Option.{option_map_or}
 use Rattle.std.specs.FinMap as maps
 use Rattle.hex.specs.Hex.{encode_lower}
-use Rattle.show.specs.declared.rate.Rate.{Rate}
-use Rattle.show.specs.Readers.{patch_ordinals}
-use Rattle.show.specs.Tables.{LevelMap, PatchMap, Tables}
+use Rattle.show_core.specs.declared.rate.Rate.{Rate}
+use Rattle.show_core.specs.Readers.{patch_ordinals}
+use Rattle.show_core.specs.Tables.{LevelMap, PatchMap, Tables}
 use Rattle.show_line.specs.declared.statement.Record.{Record}
 use Rattle.show_line.specs.declared.statement.Record.TheVariants.{Cue, Group, Sub}
 use Rattle.cmd_cues.specs.declared.cue_rows.CueRow.{CueRow}

@@ -1,9 +1,9 @@
 -- The rows of the cue list.
 use Rattle.std.specs.Prelude.{ℕ, ◌==◌, List, count_by, map}
 use Rattle.std.specs.FinMap as maps
-use Rattle.show.specs.declared.cue.CueData.{CueData}
-use Rattle.show.specs.Readers.{ordinal_of, rate_of}
-use Rattle.show.specs.Tables.{CueMap, PatchMap}
+use Rattle.show_core.specs.declared.cue.CueData.{CueData}
+use Rattle.show_core.specs.Readers.{ordinal_of, rate_of}
+use Rattle.show_core.specs.Tables.{CueMap, PatchMap}
 use Rattle.cmd_cues.specs.declared.cue_rows.CueRow.{CueRow}
 
 -- a cue as it is played: without UP its rising levels take the rate of DOWN, and the reverse; how

@@ -4,9 +4,9 @@ use Rattle.std.specs.Prelude.{if◌then◌else◌, replicate, take, Option}
 use Rattle.std.specs.Option.{option_map_or}
 use Rattle.std.specs.FinMap as maps
 use Rattle.ascii_text.specs.Text.{is_word}
-use Rattle.show.specs.declared.rate.Rate.{Rate}
-use Rattle.show.specs.Readers.{patch_ordinals}
-use Rattle.show.specs.Tables.{LevelMap, PatchMap, Tables}
+use Rattle.show_core.specs.declared.rate.Rate.{Rate}
+use Rattle.show_core.specs.Readers.{patch_ordinals}
+use Rattle.show_core.specs.Tables.{LevelMap, PatchMap, Tables}
 use Rattle.show_line.specs.declared.statement.Record.{Record}
 use Rattle.show_line.specs.declared.statement.Record.TheVariants.{Cue, Group, Sub}
 use Rattle.cmd_explain.specs.Skipped.{display_text}

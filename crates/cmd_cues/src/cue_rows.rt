@@ -1,12 +1,12 @@
 ghost use Rattle.std.specs.Prelude.{◌≡◌, ◌++◌, ◌∷◌, [], IfOk, OnOk, Some};
 ghost use Rattle.std.specs.FinMap as maps;
-ghost use Rattle.show.specs.declared.cue.CueData.{CueData};
+ghost use Rattle.show_core.specs.declared.cue.CueData.{CueData};
 ghost use Rattle.cmd_cues.specs.Rows.{cue_row, cue_rows, dimmer_count};
-ghost use Rattle.show.specs.Readers.{ordinal_of};
+ghost use Rattle.show_core.specs.Readers.{ordinal_of};
 ghost use Rattle.cmd_cues.specs.Masters.{record_in};
 
 use cmd_explain::cue_numbers;
-use show::{Cue, Levels, Rate, Show};
+use show_core::{Cue, Levels, Rate, Show};
 use show_line::Record;
 use std::alloc::{AllocError, Global};
 

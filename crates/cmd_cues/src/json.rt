@@ -10,7 +10,7 @@ ghost use Rattle.cmd_cues.specs.Json.{rate_members, universe_object};
 use crate::cue_rows::{CueRow, Masters, channel_count, cue_rows, dimmer_count};
 use crate::labels::Labels;
 use cmd_explain::{push_decimal, push_number};
-use show::{Levels, Rate, Show};
+use show_core::{Levels, Rate, Show};
 use show_line::Record;
 use std::alloc::{AllocError, Global};
 

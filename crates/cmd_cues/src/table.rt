@@ -8,7 +8,7 @@ use crate::cell::{push_cell, push_decimal_cell, push_number_cell};
 use crate::cue_rows::{CueRow, Masters, channel_count, cue_rows, dimmer_count};
 use crate::labels::Labels;
 use cmd_explain::push_display_text;
-use show::{Levels, Rate, Show};
+use show_core::{Levels, Rate, Show};
 use show_line::Record;
 use std::alloc::{AllocError, Global};
 

@@ -14,12 +14,12 @@ pub use Rattle.std.proofs.lemmas.List.{append-nil, drop_more, get_or-map, take-a
 pub use Rattle.std.proofs.lemmas.List.{take_more, length-reverse, reverse-reverse, take_all}
 pub use Rattle.std.proofs.lemmas.List.{flat_map_more, map-append, map_more, map_push}
 pub use Rattle.std.proofs.lemmas.List.{reverse-append, take_min}
-pub use Rattle.show.specs.declared.cue.CueData.{CueData}
-pub use Rattle.show.specs.Numbers.{is_cue_number, is_channel}
-pub use Rattle.show.specs.Readers.{cue_above}
-pub use Rattle.show.specs.Tables.{CueMap, Tables}
-pub use Rattle.show.proofs.Ordinals.{below_of}
-pub use Rattle.show.proofs.Sorted.{and_left, and_right, less}
+pub use Rattle.show_core.specs.declared.cue.CueData.{CueData}
+pub use Rattle.show_core.specs.Numbers.{is_cue_number, is_channel}
+pub use Rattle.show_core.specs.Readers.{cue_above}
+pub use Rattle.show_core.specs.Tables.{CueMap, Tables}
+pub use Rattle.show_core.proofs.Ordinals.{below_of}
+pub use Rattle.show_core.proofs.Sorted.{and_left, and_right, less}
 pub use Rattle.cmd_explain.specs.LineNotes.{has_decimal_comma, is_decimal, notes_of_kind}
 pub use Rattle.cmd_explain.specs.LineNotes.{desk_statement, link_note_on, link_note, times_on}
 pub use Rattle.cmd_explain.specs.LineNotes.{comma_note_on, comma_note, hour_by, hour_note, again_by}
@@ -83,7 +83,7 @@ pub use Rattle.cmd_explain.specs.ShowNotes.{dark_channels, is_patched, list_note
 unfoldable pub use Rattle.cmd_explain.specs.ShowNotes.{dark_notes}
 pub use Rattle.cmd_explain.specs.ShowNotes.{no_patch_note, same_cues}
 unfoldable pub use Rattle.cmd_explain.specs.ShowNotes.{patch_notes}
-pub use Rattle.show.proofs.Ranges.{entries_from_keys}
+pub use Rattle.show_core.proofs.Ranges.{entries_from_keys}
 pub use Rattle.cmd_explain.specs.Decimals.{decimal_text}
 pub use Rattle.ascii_text.specs.LinesLeft.{lines_left}
 pub use Rattle.std.proofs.lemmas.List.Folds.{list_any-append}

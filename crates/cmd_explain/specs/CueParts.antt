@@ -8,10 +8,10 @@ use Rattle.std.specs.List.{fold, list_any, range_with_len}
 use Rattle.std.specs.Option.{option_or}
 use Rattle.std.specs.FinMap as maps
 use Rattle.ascii_text.specs.Text.{words_of}
-use Rattle.show.specs.declared.cue.CueTime.{CueTime}
-use Rattle.show.specs.declared.cue.CueTime.TheVariants.{Up, Down}
-use Rattle.show.specs.declared.rate.Rate.{Rate}
-use Rattle.show.specs.Tables.{Tables}
+use Rattle.show_core.specs.declared.cue.CueTime.{CueTime}
+use Rattle.show_core.specs.declared.cue.CueTime.TheVariants.{Up, Down}
+use Rattle.show_core.specs.declared.rate.Rate.{Rate}
+use Rattle.show_core.specs.Tables.{Tables}
 use Rattle.show_line.specs.declared.statement.Record.TheVariants.{Cue}
 use Rattle.show_line.specs.declared.statement.Statement.{Statement}
 use Rattle.show_line.specs.declared.statement.Statement.TheVariants.{Opens, Levels, SetsTime}

@@ -5,7 +5,7 @@ use Rattle.ascii_text.specs.Text.{lines_of}
 use Rattle.cmd_faults.specs.declared.fault.RunFault.{RunFault}
 use Rattle.cmd_faults.specs.declared.fault.RunFault.TheVariants as run
 use Rattle.devices.specs.Tape.{Tape, with_failure, with_more}
-use Rattle.show.specs.Tables.{Tables}
+use Rattle.show_core.specs.Tables.{Tables}
 use Rattle.show_line.specs.Said.{desk_limits}
 use Rattle.show_reader.specs.ItsShow.{OfItsShow}
 use Rattle.show_reader.specs.Reading.{lines_read}

@@ -8,10 +8,10 @@ use Rattle.std.specs.Char.{is_ascii_digit}
 use Rattle.std.specs.FinMap as maps
 use Rattle.ascii_text.specs.Forms.{cue_number_of}
 use Rattle.ascii_text.specs.Text.{words_of}
-use Rattle.show.specs.declared.cue.CueTime.TheVariants.{Up, Down, Follow}
-use Rattle.show.specs.declared.rate.Rate.{Rate}
-use Rattle.show.specs.Readers.{cue_above}
-use Rattle.show.specs.Tables.{Tables}
+use Rattle.show_core.specs.declared.cue.CueTime.TheVariants.{Up, Down, Follow}
+use Rattle.show_core.specs.declared.rate.Rate.{Rate}
+use Rattle.show_core.specs.Readers.{cue_above}
+use Rattle.show_core.specs.Tables.{Tables}
 use Rattle.show_line.specs.declared.statement.Record.{Record}
 use Rattle.show_line.specs.declared.statement.Record.TheVariants.{Cue, Group, Sub}
 use Rattle.show_line.specs.declared.statement.Statement.{Statement}

@@ -1,7 +1,7 @@
 -- The notes on the lines of a show text, by kinds.
 use Rattle.std.specs.Prelude.{◌≡◌, ◌+◌, ◌++◌, ℕ, List, [], ◌∷◌, if◌then◌else◌}
 use Rattle.ascii_text.specs.Text.{words_of}
-use Rattle.show.specs.Tables.{Tables}
+use Rattle.show_core.specs.Tables.{Tables}
 use Rattle.show_line.specs.declared.keyword.Keyword.{Keyword}
 use Rattle.show_line.specs.declared.statement.Statement.{Statement}
 use Rattle.show_line.specs.declared.statement.Table.{Table}

@@ -6,9 +6,9 @@ use Rattle.std.specs.Prelude.{flat_map, length}
 use Rattle.std.specs.List.{list_all, list_any, range_with_len, slice_index_or}
 use Rattle.std.specs.Option.{option_map_or}
 use Rattle.std.specs.FinMap as maps
-use Rattle.show.specs.declared.cue.CueData.{CueData}
-use Rattle.show.specs.Readers.{level_in}
-use Rattle.show.specs.Tables.{CueMap, LevelMap, PatchMap, Tables}
+use Rattle.show_core.specs.declared.cue.CueData.{CueData}
+use Rattle.show_core.specs.Readers.{level_in}
+use Rattle.show_core.specs.Tables.{CueMap, LevelMap, PatchMap, Tables}
 use Rattle.cmd_explain.specs.Decimals.{decimal_text}
 
 -- ---- what is patched and listed

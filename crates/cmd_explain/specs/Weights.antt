@@ -2,7 +2,7 @@
 -- unknown keywords. Lists of lines have the last line first.
 use Rattle.std.specs.Prelude.{◌≡◌, ℕ, ◌==◌, ◌++◌, List, count_by, reverse, take}
 use Rattle.ascii_text.specs.Text.{lines_of}
-use Rattle.show.specs.Tables.{Tables}
+use Rattle.show_core.specs.Tables.{Tables}
 use Rattle.cmd_explain.specs.declared.weight.Weight.{Weight}
 use Rattle.cmd_explain.specs.Encoding.{encoding_notes}
 use Rattle.cmd_explain.specs.NotesOf.{unknown_count, weighty_line_notes}

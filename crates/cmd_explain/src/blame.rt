@@ -1,5 +1,5 @@
 use ascii_text::{Words, cue_number, level, number, same_word, time};
-use show::{CHANNELS, DIMMERS, GROUPS, SUBMASTERS};
+use show_core::{CHANNELS, DIMMERS, GROUPS, SUBMASTERS};
 use show_line::{Keyword, LineFault};
 
 // What a word is meant to be, by its place in a line.

@@ -2,7 +2,7 @@ ghost use Rattle.std.specs.Prelude.{◌≡◌, ◌==◌, ◌≤◌, ◌||◌, �
 ghost use Rattle.std.specs.FinMap as maps;
 ghost use Rattle.cmd_explain.specs.ShowNotes.{is_listed, is_marked, is_patched, lists};
 
-use show::{Cue, Show};
+use show_core::{Cue, Show};
 
 /// Which channels are meant, from 0 on.
 pub type Channels = [bool; 4097];

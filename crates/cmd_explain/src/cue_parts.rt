@@ -14,7 +14,7 @@ use crate::heading::Heading;
 use crate::line_words::{begins_with_word, operands};
 use crate::openings::is_emptied;
 use ascii_text::Line;
-use show::{CueTime, Rate};
+use show_core::{CueTime, Rate};
 use show_line::{Pairs, Record, Statement, Table};
 use std::alloc::{AllocError, Global};
 

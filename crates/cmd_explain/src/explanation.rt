@@ -19,7 +19,7 @@ use crate::skipped::{push_display_text, skipped_lines};
 use crate::weight::push_weighty;
 use cmd_faults::RunFault;
 use devices::Output;
-use show::Show;
+use show_core::Show;
 use show_reader::{LONGEST_TEXT, Loaded, ShowFault, read_show};
 use std::alloc::{AllocError, Global};
 

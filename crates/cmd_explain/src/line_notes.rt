@@ -14,7 +14,7 @@ use crate::heading::Heading;
 use crate::line_words::{begins_with_word, operands};
 use crate::skipped::{first_bytes, push_display_text};
 use ascii_text::cue_number;
-use show::{CueTime, Rate, Show};
+use show_core::{CueTime, Rate, Show};
 use show_line::{Record, Statement};
 use std::alloc::AllocError;
 

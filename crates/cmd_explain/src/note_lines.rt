@@ -1,7 +1,7 @@
 ghost use Rattle.std.specs.Prelude.{◌≡◌, ◌+◌, ◌<◌, ◌^◌, ℕ, List, ◌∷◌, length, take, reverse};
 ghost use Rattle.std.specs.Prelude.{IfOk, OnOk, [], if◌then◌else◌};
 ghost use Rattle.ascii_text.specs.Text.{lines_of};
-ghost use Rattle.show.specs.Tables.{Tables};
+ghost use Rattle.show_core.specs.Tables.{Tables};
 ghost use Rattle.cmd_explain.specs.Headings.{is_unknown};
 ghost use Rattle.cmd_explain.specs.NotesOf.{AreMore, AreNotesOf};
 
@@ -12,7 +12,7 @@ use crate::numbered_lines::NumberedLines;
 use crate::openings::Openings;
 use crate::patch_notes::PatchNotes;
 use ascii_text::{Line, Lines};
-use show::Show;
+use show_core::Show;
 use show_line::{Keyword, Statement, Table, read_line};
 use std::alloc::{AllocError, Global};
 

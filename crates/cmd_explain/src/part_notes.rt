@@ -14,7 +14,7 @@ use crate::cue_parts::{Part, Times};
 use crate::decimal::{push_decimal, push_number};
 use crate::line_notes::{push_front, push_rate};
 use crate::skipped::{first_bytes, push_display_text};
-use show::{CHANNELS, Rate};
+use show_core::{CHANNELS, Rate};
 use std::alloc::{AllocError, Global};
 
 /// Appends the notes on the parts of these cues.

@@ -9,7 +9,7 @@ ghost use Rattle.cmd_explain.specs.ShowNotes.{dark_notes, no_patch_note};
 
 use crate::channels::{Channels, is_marked, listed_channels, patched_channels};
 use crate::decimal::{push_decimal, push_number};
-use show::{CHANNELS, Cue, Show};
+use show_core::{CHANNELS, Cue, Show};
 use std::alloc::{AllocError, Global};
 
 /// Appends the notes on a show: on its patch, on cues and channels that no dimmer shows, and on

@@ -3,10 +3,10 @@ use Rattle.std.proofs.Common.{◌≡◌, ℕ, true, false, refl, ap, sym, ◌∙
 use Rattle.std.proofs.Common.{Option, Some, None}
 use Rattle.std.specs.Prelude.{is_some}
 use Rattle.std.proofs.lemmas.List.{append_cancel_left}
-use Rattle.playback.specs.Played.{Move, current_after}
-use Rattle.desk.specs.declared.answer.Refused.{Refused}
-use Rattle.desk.specs.Played.{Act, ticks_since_end}
-use Rattle.desk.specs.Played.{moved_to, moves, own_time, refusal}
+use Rattle.playback_core.specs.Played.{Move, current_after}
+use Rattle.desk_core.specs.declared.answer.Refused.{Refused}
+use Rattle.desk_core.specs.Played.{Act, ticks_since_end}
+use Rattle.desk_core.specs.Played.{moved_to, moves, own_time, refusal}
 use Rattle.console.specs.declared.call.Call.{Call}
 use Rattle.console.specs.declared.call.Call.TheVariants.{Order, Tick}
 use Rattle.console.specs.declared.reading.Reading.TheVariants.{At}

@@ -2,7 +2,7 @@
 use Rattle.std.proofs.Common.{◌≡◌, ◌++◌, Bool, List, Option, None, Some}
 use Rattle.std.specs.Prelude.{OnSome}
 use Rattle.devices.specs.Send.{Send}
-use Rattle.fade.specs.Level.{Start}
+use Rattle.fade_core.specs.Level.{Start}
 use Rattle.live_machine.specs.declared.night_system.FollowEnd.{FollowEnd}
 use Rattle.cmd_live.specs.Beginning.{CanFollow, HasTakenUp}
 use Rattle.cmd_live.specs.Following.{Follows, HasFollowed, end_of_pause}

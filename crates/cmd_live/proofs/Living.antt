@@ -7,9 +7,9 @@ use Rattle.std.proofs.lemmas.Grind.{flat_map-append}
 use Rattle.std.proofs.lemmas.List.{reverse-append}
 use Rattle.std.proofs.lemmas.List.Sums.{sum_by-append}
 use Rattle.devices.specs.Send.{Send, failures_of}
-use Rattle.fade.specs.Level.{Start}
-use Rattle.show.specs.Tables.{Tables}
-use Rattle.desk.specs.Played.{Act}
+use Rattle.fade_core.specs.Level.{Start}
+use Rattle.show_core.specs.Tables.{Tables}
+use Rattle.desk_core.specs.Played.{Act}
 use Rattle.console.specs.Offering.{AreOffered}
 use Rattle.console.specs.Streams.{Production}
 use Rattle.console.specs.Spelling.{reading_of}

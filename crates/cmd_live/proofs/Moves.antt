@@ -5,7 +5,7 @@ use Rattle.std.specs.Prelude.{◌-◌, flat_map, reverse, take}
 use Rattle.std.proofs.Math.Seq.{take-append_seam}
 use Rattle.std.proofs.lemmas.Grind.{flat_map-append}
 use Rattle.std.proofs.lemmas.List.{reverse-append}
-use Rattle.playback.specs.Played.{Move}
+use Rattle.playback_core.specs.Played.{Move}
 use Rattle.console.specs.CueLine.{cue_line}
 use Rattle.cmd_live.specs.Shown.{cue_lines, moves_behind}
 

@@ -7,7 +7,7 @@ use Rattle.std.specs.Prelude.{slice_range, ◌==◌}
 use Rattle.std.proofs.lemmas.Bool.Decides.{nat_tests}
 use Rattle.std.proofs.lemmas.List.{take_more, drop_more, get_or-drop, length-drop}
 use Rattle.std.proofs.lemmas.List.Sums.{fold-append}
-use Rattle.fade.specs.Level.{Start}
+use Rattle.fade_core.specs.Level.{Start}
 use Rattle.console.specs.Streams.{Production}
 use Rattle.devices.specs.Send.{Send}
 use Rattle.console.specs.Offering.{AreOffered}

@@ -2,9 +2,9 @@
 use Rattle.std.specs.Prelude.{◌≡◌, ◌+◌, ℕ, List, [], ◌∷◌, ◌++◌, None, IsTrue, codes, length}
 use Rattle.std.specs.Prelude.{Result, Ok, Err, is_none, is_some, true}
 use Rattle.std.specs.FinMap as maps
-use Rattle.fade.specs.Level.{Start}
-use Rattle.patch.specs.Frame.{is_base}
-use Rattle.show.specs.Tables.{Tables}
+use Rattle.fade_core.specs.Level.{Start}
+use Rattle.patch_core.specs.Frame.{is_base}
+use Rattle.show_core.specs.Tables.{Tables}
 use Rattle.show_line.specs.Said.{desk_limits}
 use Rattle.show_reader.specs.ItsShow.{OfItsShow}
 use Rattle.show_reader.specs.Reading.{text_fault}
@@ -16,7 +16,7 @@ use Rattle.cmd_faults.specs.declared.fault.RunFault.TheVariants as run
 use Rattle.ascii_text.specs.Lines.{cut_of}
 use Rattle.cmd_play.specs.Run.{CarriedLine, IsRunFrom, dues_after, history_of, lines_of_run}
 use Rattle.cmd_play.specs.Run.{sends_of_run}
-use Rattle.desk.specs.Played.{Act}
+use Rattle.desk_core.specs.Played.{Act}
 use Rattle.devices.specs.Send.{Send}
 use Rattle.console.specs.Offering.{AreOffered}
 use Rattle.console.specs.Spelling.{reading_of}

@@ -2,7 +2,7 @@
 use Rattle.std.specs.Prelude.{◌≡◌, ◌≤◌, ◌⊎◌, ℕ, Bool, true, false, List, [], ◌∷◌, ◌++◌, length}
 use Rattle.std.specs.Prelude.{Option, Some, None}
 use Rattle.devices.specs.Send.{Send}
-use Rattle.fade.specs.Level.{Start}
+use Rattle.fade_core.specs.Level.{Start}
 use Rattle.console.specs.Streams.{Production}
 use Rattle.live_input.specs.Night.{answers, is_over}
 use Rattle.live_input.specs.Recall.{AreRecalled, IsRecalled, recall_of}

@@ -4,8 +4,8 @@ use Rattle.std.specs.Prelude.{◌∷◌}
 use Rattle.std.specs.Prelude.{◌⊎◌, length, Result, Ok, Err}
 use Rattle.std.specs.Option.{option_map_or}
 use Rattle.devices.specs.Send.{Send, failures_of}
-use Rattle.show.specs.Tables.{Tables}
-use Rattle.desk.specs.Played.{Act}
+use Rattle.show_core.specs.Tables.{Tables}
+use Rattle.desk_core.specs.Played.{Act}
 use Rattle.console.specs.Streams.{Production}
 use Rattle.cmd_faults.specs.declared.fault.RunFault.{RunFault}
 use Rattle.cmd_faults.specs.declared.fault.RunFault.TheVariants as run

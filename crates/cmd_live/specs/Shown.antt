@@ -2,9 +2,9 @@
 use Rattle.std.specs.Prelude.{◌≡◌, ◌≤◌, ℕ, ◌-◌, nat_lt, Bool, true, List, [], ◌++◌}
 use Rattle.std.specs.Prelude.{codes, if◌then◌else◌, flat_map, length, reverse, take}
 use Rattle.devices.specs.Tape.{Tape}
-use Rattle.show.specs.Tables.{Tables}
-use Rattle.playback.specs.Played.{Move, current_after, go_target}
-use Rattle.desk.specs.Played.{Act, ticks_since_end, moves, refusal, settings}
+use Rattle.show_core.specs.Tables.{Tables}
+use Rattle.playback_core.specs.Played.{Move, current_after, go_target}
+use Rattle.desk_core.specs.Played.{Act, ticks_since_end, moves, refusal, settings}
 use Rattle.sacn_source.specs.declared.offered.Offered.{Offered}
 use Rattle.console.specs.Streams.{Production}
 use Rattle.console.specs.CueLine.{cue_line}

@@ -2,8 +2,8 @@
 -- Of use inside the crate: what its public calls answer is said without these.
 use Rattle.std.specs.Prelude.{◌≡◌, ◌≤◌, ◌++◌, ◌∷◌, [], ℕ, Bool, true, false, List, length}
 use Rattle.devices.specs.Send.{Send, failures_of}
-use Rattle.fade.specs.Level.{Start}
-use Rattle.desk.specs.Played.{Act}
+use Rattle.fade_core.specs.Level.{Start}
+use Rattle.desk_core.specs.Played.{Act}
 use Rattle.sacn_source.specs.declared.offered.Offered.{Offered}
 use Rattle.console.specs.Offering.{AreOffered}
 use Rattle.console.specs.Stands as console

@@ -19,7 +19,7 @@ use cmd_faults::RunFault;
 use cmd_play::{open, perform};
 use console::{Console, cue_number};
 use devices::Link;
-use fade::Fader;
+use fade_core::Fader;
 use live_input::LiveInput;
 use sacn_source::Identity;
 use std::alloc::Global;

@@ -1,7 +1,7 @@
 ghost use Rattle.std.specs.Prelude.{◌≡◌, ◌≤◌, ◌<◌, ◌^◌, ◌++◌, ℕ, Bool, List, Option};
-ghost use Rattle.playback.specs.Placed.{IsPlaceAfter};
-ghost use Rattle.playback.specs.Played.{Move, moves_by};
-ghost use Rattle.desk.specs.Played.{moved_to};
+ghost use Rattle.playback_core.specs.Placed.{IsPlaceAfter};
+ghost use Rattle.playback_core.specs.Played.{Move, moves_by};
+ghost use Rattle.desk_core.specs.Played.{moved_to};
 ghost use Rattle.console.specs.Stands.{HasHistory, OfEach, StandsFor};
 ghost use Rattle.console.specs.Spelling.{reading_of};
 ghost use Rattle.cmd_play.specs.Run.{acts_after};
@@ -15,12 +15,12 @@ ghost use Rattle.cmd_live.specs.Stands.{BoothCarriesOut, ShowsText, accepts_call
 use crate::booth::Booth;
 use cmd_play::{Answer, perform};
 use console::{Call, Console, cue_line};
-use desk::Command;
+use desk_core::Command;
 use devices::Link;
-use fade::Fader;
+use fade_core::Fader;
 use live_input::GivenLine;
-use playback::Place;
-use show::Show;
+use playback_core::Place;
+use show_core::Show;
 
 // Records a line and carries it out, and shows its answer and the moves that came by it; how many
 // packets were lost.

@@ -12,7 +12,7 @@ use crate::main_console::{Led, MainConsole};
 use crate::night::Night;
 use crate::place;
 use devices::Link;
-use fade::Fader;
+use fade_core::Fader;
 use live_machine::FollowEnd;
 
 /// Why a night does not follow for now.

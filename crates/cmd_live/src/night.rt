@@ -11,7 +11,7 @@ use crate::carry::carry_out;
 use crate::place::{help_text, show_place};
 use console::Console;
 use devices::{Link, LinkFault};
-use fade::Fader;
+use fade_core::Fader;
 use live_input::{Given, LiveInput};
 
 /// A live night: it is opened for a show, may begin with a cue or go on behind a record, and is

@@ -7,7 +7,7 @@ ghost use Rattle.cmd_live.specs.Stands.{ShowsText};
 use crate::booth::Booth;
 use console::{Console, where_line};
 use devices::Link;
-use fade::Fader;
+use fade_core::Fader;
 
 // Shows where the night is, at a moment.
 pub fn show_place<F: Fader, B: Booth, L: Link>(

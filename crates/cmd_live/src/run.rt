@@ -6,7 +6,7 @@ use crate::booth::Booth;
 use crate::night::Night;
 use cmd_faults::RunFault;
 use devices::{Link, LinkFault};
-use fade::Fader;
+use fade_core::Fader;
 
 // Of the time between a record and the night that goes on behind it, in milliseconds, so much
 // counts.

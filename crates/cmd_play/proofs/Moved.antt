@@ -8,7 +8,7 @@ use Rattle.cmd_play.proofs.Terms.{command_lacks, last_act_moment, last_tick, mov
 use Rattle.cmd_play.proofs.Terms.{own_time, refusal, target, time_refusal, Call, Order, Tick}
 use Rattle.cmd_play.proofs.Terms.{act_of, own_move}
 use Rattle.std.proofs.Common.{Option}
-use Rattle.desk.specs.Played as played
+use Rattle.desk_core.specs.Played as played
 
 both_none : (a b : Option Refused) → option_or a b ≡ None → (a ≡ None) × (b ≡ None)
 both_none None b e = (refl, e)

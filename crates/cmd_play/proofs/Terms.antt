@@ -5,10 +5,10 @@ pub use Rattle.std.proofs.Common.{length, take, ◌⊎◌, inr, ◌+◌, append_
 pub use Rattle.std.proofs.Common.{rules, drop, take-append-drop, inl}
 pub use Rattle.std.specs.Prelude.{IsTrue, IsFalse, Option, count_by, is_none, is_some}
 pub use Rattle.std.specs.Prelude.{if◌then◌else◌, ◌==◌}
-unfoldable pub use Rattle.patch.specs.Frame.{is_base}
-pub use Rattle.patch.specs.declared.fault.RigFault.{RigFault}
-pub use Rattle.patch.specs.declared.fault.RigFault.TheVariants.{Universe}
-pub use Rattle.show.specs.Tables.{Tables}
+unfoldable pub use Rattle.patch_core.specs.Frame.{is_base}
+pub use Rattle.patch_core.specs.declared.fault.RigFault.{RigFault}
+pub use Rattle.patch_core.specs.declared.fault.RigFault.TheVariants.{Universe}
+pub use Rattle.show_core.specs.Tables.{Tables}
 pub use Rattle.show_line.specs.Said.{desk_limits}
 pub use Rattle.show_reader.specs.Reading.{text_fault}
 pub use Rattle.show_reader.specs.Shows.{IsShowOf}
@@ -17,12 +17,12 @@ pub use Rattle.show_reader.specs.ItsShow.{OfItsShow}
 pub use Rattle.show_reader.proofs.OneShow.{of_its_show}
 pub use Rattle.std.proofs.lemmas.List.Sums.{sum_by-cons, sum_by-append, fold-append}
 pub use Rattle.devices.specs.Send.{Send, failures_of}
-pub use Rattle.desk.specs.declared.answer.Refused.{Refused}
-pub use Rattle.desk.specs.declared.answer.Ticked.{Ticked}
-pub use Rattle.desk.specs.Played.{Act, ticks_since_end, outcome, refusal, tick_answer, is_after_end}
-pub use Rattle.desk.specs.Played.{is_soon, lack_refusal, command_lacks, last_act_moment, last_tick}
-pub use Rattle.desk.specs.Played.{moved_to, moves, order_at, own_time, target, tick_at}
-pub use Rattle.desk.specs.Played.{time_refusal}
+pub use Rattle.desk_core.specs.declared.answer.Refused.{Refused}
+pub use Rattle.desk_core.specs.declared.answer.Ticked.{Ticked}
+pub use Rattle.desk_core.specs.Played.{Act, ticks_since_end, outcome, refusal, tick_answer, is_after_end}
+pub use Rattle.desk_core.specs.Played.{is_soon, lack_refusal, command_lacks, last_act_moment, last_tick}
+pub use Rattle.desk_core.specs.Played.{moved_to, moves, order_at, own_time, target, tick_at}
+pub use Rattle.desk_core.specs.Played.{time_refusal}
 pub use Rattle.sacn_source.specs.Identity.{Identity}
 pub use Rattle.sacn_source.specs.declared.offered.Offered.{Offered}
 pub use Rattle.sacn_source.specs.declared.offered.Offered.TheVariants.{Quiet}
@@ -45,13 +45,13 @@ pub use Rattle.std.specs.Result.{IfErr, IsErrAnd}
 pub use Rattle.std.proofs.lemmas.Result.{err_from_is_err_and}
 pub use Rattle.cmd_play.specs.declared.fault.PlayFault.{PlayFault}
 pub use Rattle.std.specs.Option.{option_or}
-pub use Rattle.playback.specs.Played.{Move, current_after, moves_by}
-pub use Rattle.desk.specs.declared.command.Command.{Command}
-pub use Rattle.desk.specs.declared.command.Command.TheVariants.{Go, Back, Goto, GotoIn, Sub, Group}
-pub use Rattle.desk.specs.declared.command.Command.TheVariants.{Master, End}
-pub use Rattle.desk.specs.declared.answer.Refused.TheVariants.{AtEnd, AtStart, NoCue}
-pub use Rattle.fade.specs.declared.fader.Fader.{Ghosts}
-pub use Rattle.fade.specs.Level.{Start}
+pub use Rattle.playback_core.specs.Played.{Move, current_after, moves_by}
+pub use Rattle.desk_core.specs.declared.command.Command.{Command}
+pub use Rattle.desk_core.specs.declared.command.Command.TheVariants.{Go, Back, Goto, GotoIn, Sub, Group}
+pub use Rattle.desk_core.specs.declared.command.Command.TheVariants.{Master, End}
+pub use Rattle.desk_core.specs.declared.answer.Refused.TheVariants.{AtEnd, AtStart, NoCue}
+pub use Rattle.fade_core.specs.declared.fader.Fader.{Ghosts}
+pub use Rattle.fade_core.specs.Level.{Start}
 pub use Rattle.devices.specs.Tape.{Tape, with_more, with_failure}
 pub use Rattle.devices.proofs.Tapes.{with_more-none, with_more-twice}
 pub use Rattle.cmd_play.specs.declared.stage.Stage.{Stage}

@@ -1,7 +1,7 @@
 -- How a play opens its console.
 use Rattle.std.specs.Prelude.{◌≡◌, ℕ, false, List, [], Err, None, IsTrue}
-use Rattle.fade.specs.Level.{Start}
-use Rattle.patch.specs.Frame.{is_base}
+use Rattle.fade_core.specs.Level.{Start}
+use Rattle.patch_core.specs.Frame.{is_base}
 use Rattle.show_line.specs.Said.{desk_limits}
 use Rattle.show_reader.specs.ItsShow.{OfItsShow}
 use Rattle.show_reader.specs.Reading.{text_fault}

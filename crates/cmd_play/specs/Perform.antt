@@ -1,9 +1,9 @@
 -- What a console answers to a call, and what it offers.
 use Rattle.std.specs.Prelude.{◌≡◌, ℕ, List, ◌++◌, Option, Some, None, count_by}
 use Rattle.devices.specs.Send.{Send}
-use Rattle.desk.specs.declared.answer.Refused.{Refused}
-use Rattle.desk.specs.Played.{Act, ticks_since_end, refusal, tick_answer}
-use Rattle.desk.specs.declared.command.Command.TheVariants.{Go, Back, Goto, GotoIn}
+use Rattle.desk_core.specs.declared.answer.Refused.{Refused}
+use Rattle.desk_core.specs.Played.{Act, ticks_since_end, refusal, tick_answer}
+use Rattle.desk_core.specs.declared.command.Command.TheVariants.{Go, Back, Goto, GotoIn}
 use Rattle.sacn_source.specs.declared.offered.Offered.{Offered}
 use Rattle.console.specs.Offering.{AreOffered}
 use Rattle.console.specs.Streams.{Production}

@@ -6,7 +6,7 @@ use Rattle.show_line.specs.Said.{desk_limits}
 use Rattle.show_reader.specs.Reading.{text_fault}
 use Rattle.show_reader.specs.declared.fault.ShowFault.TheVariants as show_fault
 use Rattle.show_reader.specs.ItsShow.{OfItsShow}
-use Rattle.patch.specs.Frame.{is_base}
+use Rattle.patch_core.specs.Frame.{is_base}
 use Rattle.console.specs.Streams.{Production}
 use Rattle.cmd_faults.specs.declared.fault.RunFault.{RunFault}
 use Rattle.cmd_faults.specs.declared.fault.RunFault.TheVariants as run

@@ -2,9 +2,9 @@
 use Rattle.std.specs.Prelude.{◌≡◌, ℕ, List, [], ◌∷◌, ◌++◌, map, Option, Some, None}
 use Rattle.devices.specs.Send.{Send, failures_of}
 use Rattle.devices.specs.Tape.{Tape, with_failure, with_more}
-use Rattle.show.specs.Tables.{Tables}
-use Rattle.desk.specs.declared.answer.Refused.{Refused}
-use Rattle.desk.specs.Played.{Act, ticks_since_end, refusal, tick_answer}
+use Rattle.show_core.specs.Tables.{Tables}
+use Rattle.desk_core.specs.declared.answer.Refused.{Refused}
+use Rattle.desk_core.specs.Played.{Act, ticks_since_end, refusal, tick_answer}
 use Rattle.sacn_source.specs.declared.offered.Offered.{Offered}
 use Rattle.console.specs.Offering.{AreOffered}
 use Rattle.console.specs.Streams.{Due, Production, dues_at}

@@ -1,9 +1,9 @@
 -- Where a play stands in its input, and why a line ends it.
 use Rattle.std.specs.Prelude.{◌≡◌, ◌≢◌, ◌<◌, ◌≤◌, ◌+◌, ◌-◌, ◌*◌, ℕ, List, ◌∷◌, ◌++◌, true}
 use Rattle.std.specs.Prelude.{false, length, fold}
-use Rattle.fade.specs.declared.fader.Fader.{Ghosts}
-use Rattle.fade.specs.Level.{Start}
-use Rattle.desk.specs.Played.{Act}
+use Rattle.fade_core.specs.declared.fader.Fader.{Ghosts}
+use Rattle.fade_core.specs.Level.{Start}
+use Rattle.desk_core.specs.Played.{Act}
 use Rattle.console.specs.Stands as console
 use Rattle.console.specs.Streams.{Production}
 use Rattle.console.specs.declared.reading.Reading.{Reading}

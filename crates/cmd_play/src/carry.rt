@@ -6,7 +6,7 @@ ghost use Rattle.cmd_play.specs.Run.{IsAnswered, acts_after};
 use crate::performance::perform;
 use console::{AnswerLine, Call, Console};
 use devices::Link;
-use fade::Fader;
+use fade_core::Fader;
 
 // Carries a call out: the line to print of it, and how many packets were lost.
 pub fn carry_out<F: Fader, L: Link>(

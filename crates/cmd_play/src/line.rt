@@ -8,7 +8,7 @@ use crate::carry::carry_out;
 use crate::fault::PlayFault;
 use console::{Console, Reading, read_call};
 use devices::{Link, Output};
-use fade::Fader;
+use fade_core::Fader;
 
 // Carries out the line of a number, and answers how many packets were lost.
 pub fn take_line<F: Fader, L: Link, W: Output>(

@@ -9,7 +9,7 @@ use crate::stage::Stage;
 use arrayvec::ArrayVec;
 use console::Console;
 use devices::{Feed, Link, Output};
-use fade::Fader;
+use fade_core::Fader;
 
 // Plays the lines of an input, and answers how many packets were lost.
 pub fn play_lines<F: Fader, R: Feed, L: Link, W: Output>(

@@ -1,6 +1,6 @@
 ghost use Rattle.std.specs.Prelude.{◌≡◌, ◌≤◌, count_by};
-ghost use Rattle.playback.specs.Played.{current_after};
-ghost use Rattle.desk.specs.Played.{moves};
+ghost use Rattle.playback_core.specs.Played.{current_after};
+ghost use Rattle.desk_core.specs.Played.{moves};
 ghost use Rattle.console.specs.Stands.{HasHistory, OfEach, StandsFor};
 ghost use Rattle.console.specs.declared.reading.Reading.TheVariants.{At};
 ghost use Rattle.cmd_play.specs.Lost.{is_lost};
@@ -8,9 +8,9 @@ ghost use Rattle.cmd_play.specs.Perform.{Performs, lost_of, text_of_answer};
 ghost use Rattle.cmd_play.specs.Run.{acts_after};
 
 use console::{AnswerLine, Call, Console, Offers, done_line, refused_line, ticked_line};
-use desk::{Refused, Ticked};
+use desk_core::{Refused, Ticked};
 use devices::Link;
-use fade::Fader;
+use fade_core::Fader;
 use sacn_source::Offered;
 
 /// What a console answers to a call.

@@ -5,7 +5,7 @@ use crate::line::take_line;
 use arrayvec::ArrayVec;
 use console::Console;
 use devices::{Feed, Link, Output};
-use fade::Fader;
+use fade_core::Fader;
 
 // The most lines that a play carries out.
 const MOST_LINES: u32 = 10_000_000;

@@ -8,7 +8,7 @@ use Rattle.std.specs.Option.{option_or}
 use Rattle.std.proofs.lemmas.Bool.Decides.{nat_tests}
 use Rattle.std.proofs.lemmas.List.{length-map}
 use Rattle.std.proofs.lemmas.List.FromFn.{length-range_with_len}
-use Rattle.show.specs.Tables.{Tables}
+use Rattle.show_core.specs.Tables.{Tables}
 use Rattle.show_line.specs.declared.fault.LineFault.{LineFault}
 use Rattle.show_line.specs.declared.fault.LineFault.TheVariants as line
 use Rattle.show_line.specs.declared.statement.Statement.{Statement}
@@ -24,15 +24,15 @@ use Rattle.cmd_rehearse.specs.Script.{Parts, script_of}
 use Rattle.rehearsal_faults.specs.declared.fault.Fault.{Fault}
 use Rattle.rehearsal_faults.specs.declared.fault.Fault.TheVariants.{Consoles, Receivers, NoShow}
 use Rattle.rehearsal_faults.specs.declared.fault.Fault.TheVariants.{Universe, Memory}
-use Rattle.rehearsal.specs.declared.setup.Setup.{Setup}
+use Rattle.wire_world.specs.declared.setup.Setup.{Setup}
 use Rattle.sacn_receiver.specs.Shown.{shown_slots}
-use Rattle.rehearsal.specs.Happened.{accepted_by}
-use Rattle.rehearsal.specs.Replies.{events_done, last_event_moment}
-use Rattle.rehearsal.specs.Promised.{IsPromised}
-use Rattle.rehearsal.specs.Reported.{IsReportOf, RehearsalReport}
-use Rattle.rehearsal.specs.Refusing.{AnswersSetup, are_consoles, are_receivers, has_base, has_show}
-use Rattle.rehearsal.specs.Refusing.{setup_fault}
-use Rattle.rehearsal.proofs.Refusals.{fine}
+use Rattle.wire_world.specs.Happened.{accepted_by}
+use Rattle.wire_world.specs.Replies.{events_done, last_event_moment}
+use Rattle.wire_world.specs.Promised.{IsPromised}
+use Rattle.wire_world.specs.Reported.{IsReportOf, RehearsalReport}
+use Rattle.wire_world.specs.Refusing.{AnswersSetup, are_consoles, are_receivers, has_base, has_show}
+use Rattle.wire_world.specs.Refusing.{setup_fault}
+use Rattle.wire_world.proofs.Refusals.{fine}
 use Rattle.cmd_faults.specs.Runs.{of_setup, of_show}
 use Rattle.cmd_rehearse.specs.Begins.{IsSetUp, Prevents, longest_script}
 use Rattle.cmd_rehearse.specs.Printed.{AreLinesOf, ArePromisedLines, world}

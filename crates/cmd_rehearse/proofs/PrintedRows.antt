@@ -6,24 +6,24 @@ use Rattle.std.specs.Fmt.{digits}
 use Rattle.std.specs.List.{concat}
 use Rattle.hex.proofs.OnLiterals.{hex_on_literals}
 use Rattle.uuid.proofs.OnLiterals.{uuid_on_literals}
-use Rattle.desk.specs.declared.answer.Refused.TheVariants.{TooSoon, AtEnd}
-use Rattle.desk.specs.declared.answer.Ticked.TheVariants.{Live, Ending}
-use Rattle.desk.specs.declared.command.Command.TheVariants.{Go}
+use Rattle.desk_core.specs.declared.answer.Refused.TheVariants.{TooSoon, AtEnd}
+use Rattle.desk_core.specs.declared.answer.Ticked.TheVariants.{Live, Ending}
+use Rattle.desk_core.specs.declared.command.Command.TheVariants.{Go}
 use Rattle.sacn_packet.specs.declared.unreadable.Unreadable.TheVariants.{Short}
 use Rattle.sacn_receiver.specs.declared.answer.Ignored.TheVariants.{OutOfSequence, Unreadable}
 use Rattle.sacn_receiver.specs.declared.answer.Taken.{Taken}
 use Rattle.sacn_source.specs.declared.offered.Offered.TheVariants.{Sent}
 use Rattle.cmd_rehearse.specs.Forms.{setup}
 use Rattle.cmd_rehearse.specs.Script.{Parts, script_of}
-use Rattle.show.specs.Tables.{Tables}
-use Rattle.rehearsal.specs.declared.event.Event.{Event}
-use Rattle.rehearsal.specs.declared.event.What.{What}
-use Rattle.rehearsal.specs.declared.event.What.TheVariants.{Order, Stray, Show}
-use Rattle.rehearsal.specs.declared.reply.Reply.{Reply}
-use Rattle.rehearsal.specs.declared.reply.Reply.TheVariants as reply
-use Rattle.rehearsal.specs.declared.reply.Skip.TheVariants.{Backwards, TooLarge, NoConsole}
-use Rattle.rehearsal.specs.declared.reply.Skip.TheVariants.{NoReceiver, NotSent}
-use Rattle.rehearsal.specs.Replies.{events_done, reply_to}
+use Rattle.show_core.specs.Tables.{Tables}
+use Rattle.wire_world.specs.declared.event.Event.{Event}
+use Rattle.wire_world.specs.declared.event.What.{What}
+use Rattle.wire_world.specs.declared.event.What.TheVariants.{Order, Stray, Show}
+use Rattle.wire_world.specs.declared.reply.Reply.{Reply}
+use Rattle.wire_world.specs.declared.reply.Reply.TheVariants as reply
+use Rattle.wire_world.specs.declared.reply.Skip.TheVariants.{Backwards, TooLarge, NoConsole}
+use Rattle.wire_world.specs.declared.reply.Skip.TheVariants.{NoReceiver, NotSent}
+use Rattle.wire_world.specs.Replies.{events_done, reply_to}
 use Rattle.cmd_rehearse.specs.Printed.{AreLines, world}
 use Rattle.cmd_rehearse.specs.Texts.{rehearsal_lines}
 

@@ -15,7 +15,7 @@ use Rattle.std.proofs.lemmas.Slice.Zip.{Zip-more, either_empty_from_Zip}
 use Rattle.devices.specs.Tape.{Tape, with_more, with_failure}
 use Rattle.devices.proofs.Tapes.{with_more-none, with_more-twice}
 use Rattle.sacn_receiver.specs.Replies.{end_line}
-use Rattle.rehearsal.specs.declared.reply.Reply.{Reply}
+use Rattle.wire_world.specs.declared.reply.Reply.{Reply}
 use Rattle.cmd_rehearse.specs.Printed.{PrintsLines}
 use Rattle.cmd_rehearse.specs.Texts.{event_line, event_lines}
 

@@ -7,9 +7,9 @@ use Rattle.std.proofs.lemmas.Bool.{true≢false}
 use Rattle.std.proofs.lemmas.Grind.{common_steps}
 use Rattle.std.proofs.lemmas.List.Elements.{All-push}
 use Rattle.ascii_text.specs.Text.{words_of}
-use Rattle.rehearsal.specs.declared.event.Event.{Event}
-use Rattle.rehearsal.specs.declared.event.What.{What}
-use Rattle.rehearsal.specs.declared.event.What.TheVariants as what
+use Rattle.wire_world.specs.declared.event.Event.{Event}
+use Rattle.wire_world.specs.declared.event.What.{What}
+use Rattle.wire_world.specs.declared.event.What.TheVariants as what
 use Rattle.cmd_rehearse.specs.declared.said.Said.{Said}
 use Rattle.cmd_rehearse.specs.declared.said.Said.TheVariants.{Nothing, Console, Receiver, Happens}
 use Rattle.cmd_rehearse.specs.declared.said.Said.TheVariants.{Stray, Malformed}

@@ -4,9 +4,9 @@ use Rattle.std.specs.Prelude.{Ok, Err}
 use Rattle.hex.proofs.OnLiterals.{hex_on_literals}
 use Rattle.uuid.proofs.OnLiterals.{uuid_on_literals}
 use Rattle.ascii_text.specs.Text.{words_of}
-use Rattle.desk.specs.declared.command.Command.TheVariants.{Go, End}
-use Rattle.rehearsal.specs.declared.event.What.TheVariants.{Order, Tick, Deliver, Show}
-use Rattle.rehearsal.specs.declared.event.What.TheVariants as what
+use Rattle.desk_core.specs.declared.command.Command.TheVariants.{Go, End}
+use Rattle.wire_world.specs.declared.event.What.TheVariants.{Order, Tick, Deliver, Show}
+use Rattle.wire_world.specs.declared.event.What.TheVariants as what
 use Rattle.cmd_rehearse.specs.declared.said.Said.{Said}
 use Rattle.cmd_rehearse.specs.declared.said.Said.TheVariants.{Nothing, Console, Receiver, Stray}
 use Rattle.cmd_rehearse.specs.declared.said.Said.TheVariants.{Malformed}

@@ -5,10 +5,10 @@ use Rattle.std.specs.List.{AllByRecursion}
 use Rattle.std.proofs.lemmas.Bool.Decides.{nat_tests}
 use Rattle.std.proofs.lemmas.List.Elements.{recursion_from_All}
 use Rattle.cmd_rehearse.specs.Script.{IsRange, EventFits}
-use Rattle.rehearsal.specs.declared.event.Event.{Event}
-use Rattle.rehearsal.specs.declared.event.What.{What}
-use Rattle.rehearsal.specs.declared.event.What.TheVariants.{Order, Tick, Deliver, Stray, Show}
-use Rattle.rehearsal.specs.Refusing.{are_within, stray_fits}
+use Rattle.wire_world.specs.declared.event.Event.{Event}
+use Rattle.wire_world.specs.declared.event.What.{What}
+use Rattle.wire_world.specs.declared.event.What.TheVariants.{Order, Tick, Deliver, Stray, Show}
+use Rattle.wire_world.specs.Refusing.{are_within, stray_fits}
 
 -- one event
 within_one : (size : ℕ) (what : What) → IsRange size what → stray_fits size what ≡ true

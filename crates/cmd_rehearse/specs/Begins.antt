@@ -9,7 +9,7 @@ use Rattle.cmd_rehearse.specs.declared.script.ScriptFault.TheVariants as script_
 use Rattle.cmd_rehearse.specs.Script.{script_of, ExplainsScript}
 use Rattle.rehearsal_faults.specs.declared.fault.Fault.{Fault}
 use Rattle.rehearsal_faults.specs.declared.fault.Fault.TheVariants as setup
-use Rattle.rehearsal.specs.Refusing.{setup_fault}
+use Rattle.wire_world.specs.Refusing.{setup_fault}
 use Rattle.cmd_faults.specs.declared.fault.RunFault.{RunFault}
 use Rattle.cmd_faults.specs.declared.fault.RunFault.TheVariants as run
 

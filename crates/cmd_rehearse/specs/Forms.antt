@@ -4,7 +4,7 @@ use Rattle.std.specs.Prelude.{codes, option_and_then, Result, Ok, Err}
 use Rattle.ascii_text.specs.Forms.{whole_of}
 use Rattle.hex.specs.Hex.{decode_of}
 use Rattle.hex.specs.declared.error.FromHexError.{FromHexError}
-use Rattle.rehearsal.specs.declared.setup.Setup.{Setup}
+use Rattle.wire_world.specs.declared.setup.Setup.{Setup}
 
 -- a universe number: 1 to 63999 (E1.31-2018, universe)
 abbrev pub universe_of : List ℕ → Option ℕ

@@ -3,13 +3,13 @@ use Rattle.std.specs.Prelude.{◌≡◌, ℕ, List, [], ◌∷◌, ◌++◌, Res
 use Rattle.std.specs.Prelude.{OnErr, OnOk}
 use Rattle.std.specs.List.{concat}
 use Rattle.devices.specs.Tape.{Tape, with_more, with_failure}
-use Rattle.show.specs.Tables.{Tables}
+use Rattle.show_core.specs.Tables.{Tables}
 use Rattle.show_reader.specs.ItsShow.{OfItsShow}
 use Rattle.cmd_rehearse.specs.Script.{Parts, script_of}
-use Rattle.rehearsal.specs.World.{World}
-use Rattle.rehearsal.specs.Promised.{IsPromised}
-use Rattle.rehearsal.specs.Reported.{IsReportOf, RehearsalReport}
-use Rattle.rehearsal.specs.Stands.{world_of}
+use Rattle.wire_world.specs.World.{World}
+use Rattle.wire_world.specs.Promised.{IsPromised}
+use Rattle.wire_world.specs.Reported.{IsReportOf, RehearsalReport}
+use Rattle.wire_world.specs.Stands.{world_of}
 use Rattle.cmd_faults.specs.declared.fault.RunFault.{RunFault}
 use Rattle.cmd_faults.specs.declared.fault.RunFault.TheVariants as run
 use Rattle.cmd_rehearse.specs.Texts.{rehearsal_lines}

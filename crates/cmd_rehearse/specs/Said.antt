@@ -4,8 +4,8 @@ use Rattle.std.specs.Prelude.{length, Option, Some, None, option_map, option_and
 use Rattle.ascii_text.specs.Forms.{same_word, moment_of, whole_of}
 use Rattle.uuid.specs.Text.{parsed}
 use Rattle.console.specs.Spelling.{command_of}
-use Rattle.rehearsal.specs.declared.event.What.{What}
-use Rattle.rehearsal.specs.declared.event.What.TheVariants.{Order, Tick, Deliver, Show}
+use Rattle.wire_world.specs.declared.event.What.{What}
+use Rattle.wire_world.specs.declared.event.What.TheVariants.{Order, Tick, Deliver, Show}
 use Rattle.cmd_rehearse.specs.Forms.{universe_of, place_of, hex_bytes, digits_in, setup}
 use Rattle.cmd_rehearse.specs.declared.said.Said.{Said}
 use Rattle.cmd_rehearse.specs.declared.said.Said.TheVariants.{Nothing, Console, Receiver, Happens}

@@ -3,11 +3,11 @@ use Rattle.std.specs.Prelude.{ℕ, List, ◌++◌, map, Ok, Err, codes}
 use Rattle.std.specs.List.{enumerate_from, zip}
 use Rattle.console.specs.Texts.{done_text, refused_text, ticked_text, moment_line}
 use Rattle.sacn_receiver.specs.Replies.{receiver_reply as datagram_text, lit_slots_text, end_line}
-use Rattle.rehearsal.specs.declared.reply.Skip.{Skip}
-use Rattle.rehearsal.specs.declared.reply.Skip.TheVariants.{Backwards, TooLarge, NoConsole}
-use Rattle.rehearsal.specs.declared.reply.Skip.TheVariants.{NoReceiver, NotSent}
-use Rattle.rehearsal.specs.declared.reply.Reply.{Reply}
-use Rattle.rehearsal.specs.declared.reply.Reply.TheVariants as reply
+use Rattle.wire_world.specs.declared.reply.Skip.{Skip}
+use Rattle.wire_world.specs.declared.reply.Skip.TheVariants.{Backwards, TooLarge, NoConsole}
+use Rattle.wire_world.specs.declared.reply.Skip.TheVariants.{NoReceiver, NotSent}
+use Rattle.wire_world.specs.declared.reply.Reply.{Reply}
+use Rattle.wire_world.specs.declared.reply.Reply.TheVariants as reply
 
 -- why an event was skipped, by its name
 abbrev pub skip_name : Skip → List ℕ

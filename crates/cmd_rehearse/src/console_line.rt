@@ -1,7 +1,7 @@
-use rehearsal::Setup;
 use sacn_packet::SourceName;
 use sacn_source::Identity;
 use std::marker::Model;
+use wire_world::Setup;
 
 // The console of a header line, in little room: each line is moved about as what it says, and a
 // source's name would make all of them large.
@@ -14,7 +14,7 @@ pub struct ConsoleLine {
 
 impl Model for ConsoleLine {
     ghost use Rattle.std.specs.Prelude.{◌≤◌};
-    ghost use Rattle.rehearsal.specs.declared.setup.Setup.{Setup};
+    ghost use Rattle.wire_world.specs.declared.setup.Setup.{Setup};
     ghost use Rattle.cmd_rehearse.specs.Forms.{setup};
 
     ghost Value = { Setup };

@@ -4,9 +4,9 @@ ghost use Rattle.cmd_rehearse.specs.Printed.{PrintsLines};
 
 use crate::reply::print_reply;
 use devices::{LinkFault, Output};
-use rehearsal::{Reply, Report};
 use sacn_packet::Slots;
 use sacn_receiver::end_line;
+use wire_world::{Reply, Report};
 
 // Prints what came of a script, line by line.
 pub(crate) fn print_lines<W: Output>(

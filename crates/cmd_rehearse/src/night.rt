@@ -5,10 +5,10 @@ ghost use Rattle.cmd_rehearse.specs.Texts.{rehearsal_lines};
 
 use crate::script_input::script_in;
 use cmd_faults::RunFault;
-use fade::Fader;
-use rehearsal::{Rehearsal, Report, rehearse};
+use fade_core::Fader;
 use show_reader::read_show;
 use std::alloc::Global;
+use wire_world::{Rehearsal, Report, rehearse};
 
 // What came of a script.
 #[derive(Debug, Drop)]

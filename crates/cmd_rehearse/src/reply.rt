@@ -5,11 +5,11 @@ ghost use Rattle.cmd_rehearse.specs.Printed.{PrintsLine};
 ghost use Rattle.cmd_rehearse.specs.Texts.{event_line, skip_name, skip_text};
 
 use console::{Offers, done_line, reason_line, refused_line, ticked_line};
-use desk::{Refused, Ticked};
+use desk_core::{Refused, Ticked};
 use devices::{LinkFault, Output};
-use rehearsal::{Reply, Skip};
 use sacn_packet::Slots;
 use sacn_receiver::{Ignored, SlotsLine, Taken, reply_line, write_numbered_slots};
+use wire_world::{Reply, Skip};
 
 // Prints the reply to an event by one write, behind the number of the event's line.
 pub(crate) fn print_reply<W: Output>(

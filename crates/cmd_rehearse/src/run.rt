@@ -5,7 +5,7 @@ use crate::lines::print_lines;
 use crate::night::rehearse_script;
 use cmd_faults::RunFault;
 use devices::Output;
-use fade::Fader;
+use fade_core::Fader;
 use std::alloc::Global;
 
 /// Rehearses a script over a show, and prints the replies to its events, each behind the number of

@@ -11,9 +11,9 @@ use crate::console_line::ConsoleLine;
 use crate::hex_bytes::HexBytes;
 use ascii_text::{Words, moment, same_word, whole};
 use console::command_in;
-use rehearsal::{Event, What};
 use sacn_packet::TOP_UNIVERSE;
 use uuid::Uuid;
+use wire_world::{Event, What};
 
 // What a line says.
 #[derive(Debug, Drop)]

@@ -6,9 +6,9 @@ ghost use Rattle.cmd_rehearse.specs.Said.{is_of_no_form, is_nothing, stray_size}
 
 use crate::said::{Said, read_line};
 use ascii_text::{Line, Lines};
-use rehearsal::{Event, Setup, What};
 use std::alloc::{AllocError, Global};
 use thiserror::Error;
+use wire_world::{Event, Setup, What};
 
 /// A script: what a rehearsal is given.
 #[derive(Debug, Drop)]

@@ -1,6 +1,6 @@
 ghost use Rattle.std.specs.Prelude.{◌≡◌, ◌≤◌, length, IfOk, IfErr, Ok, IsTrue};
 ghost use Rattle.cmd_rehearse.specs.Script.{parts, script_of};
-ghost use Rattle.rehearsal.specs.Refusing.{are_within};
+ghost use Rattle.wire_world.specs.Refusing.{are_within};
 ghost use Rattle.cmd_rehearse.specs.Begins.{longest_script, LeavesScript};
 
 use crate::script::{Script, ScriptFault, read_script};

@@ -7,9 +7,9 @@ use Rattle.std.specs.Option.{option_map_or}
 use Rattle.std.specs.Ordering.{nat_cmp}
 use Rattle.std.specs.Cmp.{nat_cmp_total}
 use Rattle.std.specs.FinMap.{is_sorted, find, from_sorted, get}
-use Rattle.show.proofs.Sorted.{get_is, entries_are}
-use Rattle.show.specs.Readers.{look_slot, look_frame, ordinal_of, slot_of, patch_ordinals}
-use Rattle.show.specs.Tables.{LevelMap, PatchMap}
+use Rattle.show_core.proofs.Sorted.{get_is, entries_are}
+use Rattle.show_core.specs.Readers.{look_slot, look_frame, ordinal_of, slot_of, patch_ordinals}
+use Rattle.show_core.specs.Tables.{LevelMap, PatchMap}
 use Rattle.hex.specs.Hex.{encode_with}
 use Rattle.sacn_packet.proofs.Packets.{layers_are_data}
 use Rattle.sacn_packet.specs.Layers.{dmp_layer, framing_layer, root_layer}

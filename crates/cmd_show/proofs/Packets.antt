@@ -8,8 +8,8 @@ use Rattle.std.proofs.lemmas.List.{take_more, flat_map_more}
 use Rattle.std.proofs.lemmas.List.FromFn.{get_or-range_with_len, length-range_with_len}
 use Rattle.hex.specs.Hex.{encode_lower}
 use Rattle.sacn_packet.specs.Wire.{IsData}
-use Rattle.show.specs.Tables.{LevelMap, PatchMap}
-use Rattle.show.specs.Readers.{patch_ordinals, has_dimmer_in, look_frame}
+use Rattle.show_core.specs.Tables.{LevelMap, PatchMap}
+use Rattle.show_core.specs.Readers.{patch_ordinals, has_dimmer_in, look_frame}
 use Rattle.cmd_show.specs.Texts.{look_fields, hex_line, IsLookPacket, IsLinesOf}
 
 -- the numbers from 0 on are below their count

@@ -2,8 +2,8 @@
 use Rattle.std.proofs.Common.{◌≡◌, ◌∙◌, sym, ℕ, Bool, List, Some, is_some, IsSomeAnd}
 use Rattle.std.proofs.Common.{Result, Ok, Err, IfErr, IsErrAnd}
 use Rattle.std.specs.FinMap as maps
-use Rattle.show.specs.declared.cue.CueData.{CueData}
-use Rattle.show.specs.Tables.{LevelMap, PatchMap, Tables}
+use Rattle.show_core.specs.declared.cue.CueData.{CueData}
+use Rattle.show_core.specs.Tables.{LevelMap, PatchMap, Tables}
 use Rattle.show_line.specs.Said.{desk_limits}
 use Rattle.show_line.specs.declared.statement.Record.TheVariants.{Cue}
 use Rattle.show_reader.specs.Text.{statements_of}

@@ -2,8 +2,8 @@
 use Rattle.std.proofs.Common.{◌≡◌, ◌∙◌, sym, ap, ℕ, ◌<◌, ◌+◌}
 use Rattle.std.proofs.Common.{List, [], ◌++◌, flat_map, take, length, get_or}
 use Rattle.std.proofs.lemmas.List.{take_more, flat_map_more}
-use Rattle.show.specs.Tables.{LevelMap, PatchMap}
-use Rattle.show.specs.Readers.{look_frame}
+use Rattle.show_core.specs.Tables.{LevelMap, PatchMap}
+use Rattle.show_core.specs.Readers.{look_frame}
 use Rattle.cmd_show.specs.Slots.{universe_lines, ordinal_lines}
 
 -- the lines of the next of some universes, with the levels of a cue

@@ -2,15 +2,15 @@
 use Rattle.std.specs.Prelude.{◌≡◌, ℕ, ◌+◌, true, List, ◌++◌, flat_map, codes, decimal, None}
 use Rattle.std.specs.Prelude.{IsTrue, IsFalse, IsSomeAnd}
 use Rattle.std.specs.FinMap as maps
-use Rattle.show.specs.Tables.{LevelMap, PatchMap}
-use Rattle.show.specs.Readers.{patch_ordinals, look_frame}
+use Rattle.show_core.specs.Tables.{LevelMap, PatchMap}
+use Rattle.show_core.specs.Readers.{patch_ordinals, look_frame}
 use Rattle.show_line.specs.Said.{desk_limits}
 use Rattle.show_line.specs.declared.statement.Record.TheVariants.{Cue}
 use Rattle.show_reader.specs.ItsShow.{OfItsShow}
 use Rattle.show_reader.specs.Meaning.{is_record_there}
 use Rattle.show_reader.specs.Reading.{text_fault}
 use Rattle.show_reader.specs.Text.{statements_of}
-use Rattle.patch.specs.Frame.{is_base}
+use Rattle.patch_core.specs.Frame.{is_base}
 use Rattle.sacn_receiver.specs.Replies.{slots_line}
 use Rattle.cmd_faults.specs.declared.fault.RunFault.{RunFault}
 use Rattle.cmd_faults.specs.declared.fault.RunFault.TheVariants as run

@@ -3,8 +3,8 @@ use Rattle.std.specs.Prelude.{◌≡◌, ℕ, ◌+◌, List, ◌++◌, flat_map,
 use Rattle.std.specs.List.{AllZip}
 use Rattle.std.specs.FinMap as maps
 use Rattle.hex.specs.Hex.{encode_lower}
-use Rattle.show.specs.Tables.{LevelMap, PatchMap, Tables}
-use Rattle.show.specs.Readers.{patch_ordinals, look_frame}
+use Rattle.show_core.specs.Tables.{LevelMap, PatchMap, Tables}
+use Rattle.show_core.specs.Readers.{patch_ordinals, look_frame}
 use Rattle.sacn_packet.specs.Name.{padded_name}
 use Rattle.sacn_packet.specs.Wire.{Fields, IsData}
 

@@ -9,9 +9,9 @@ ghost use Rattle.std.specs.Prelude.{flat_map};
 use cmd_faults::RunFault;
 use devices::Output;
 use itoa::Buffer;
-use patch::has_numbers;
+use patch_core::has_numbers;
 use sacn_receiver::slots_line;
-use show::{Cue, Frame, Show};
+use show_core::{Cue, Frame, Show};
 use show_reader::read_show;
 use std::alloc::{AllocError, Global};
 

@@ -4,7 +4,7 @@ ghost use Rattle.cmd_show.specs.Texts.{check_text, counts_line, look_fields, IsL
 ghost use Rattle.cmd_show.specs.Texts.{IsLookText};
 
 use sacn_packet::{Header, SourceName, encode};
-use show::{Counts, Cue, Frame, Show};
+use show_core::{Counts, Cue, Frame, Show};
 use show_reader::Loaded;
 use std::alloc::{AllocError, Global};
 

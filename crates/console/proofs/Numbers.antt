@@ -6,7 +6,7 @@ use Rattle.std.specs.List.{range_with_len}
 use Rattle.std.proofs.lemmas.Grind.{flat_map-append}
 use Rattle.std.proofs.lemmas.List.{map-id}
 use Rattle.std.proofs.lemmas.List.FromFn.{map-range_with_len_more}
-use Rattle.masters.specs.Settings.{Setting, group_after, sub_after}
+use Rattle.master_core.specs.Settings.{Setting, group_after, sub_after}
 use Rattle.console.specs.WhereLine.{groups_text, master_text, subs_text}
 
 one_more : (k n : ℕ) → 1 + k ≡ n

@@ -1,11 +1,11 @@
 -- Input lines and answers, evaluated.
 use Rattle.std.specs.Prelude.{◌≡◌, refl, codes, [], ◌∷◌, Some, None}
 use Rattle.std.specs.Fmt.{digits}
-use Rattle.desk.specs.declared.answer.Refused.TheVariants.{AtStart}
-use Rattle.desk.specs.declared.answer.Ticked.TheVariants.{Live, Ending}
-use Rattle.desk.specs.declared.command.Command.TheVariants.{Go, Goto, GotoIn, Sub, Group}
-use Rattle.desk.specs.declared.command.Command.TheVariants.{Master}
-use Rattle.masters.specs.Settings.{grand_setting, group_setting, sub_setting}
+use Rattle.desk_core.specs.declared.answer.Refused.TheVariants.{AtStart}
+use Rattle.desk_core.specs.declared.answer.Ticked.TheVariants.{Live, Ending}
+use Rattle.desk_core.specs.declared.command.Command.TheVariants.{Go, Goto, GotoIn, Sub, Group}
+use Rattle.desk_core.specs.declared.command.Command.TheVariants.{Master}
+use Rattle.master_core.specs.Settings.{grand_setting, group_setting, sub_setting}
 use Rattle.sacn_source.specs.declared.offered.Offered.TheVariants.{Sent, Lost, Quiet}
 use Rattle.console.specs.declared.call.Call.TheVariants.{Order, Tick}
 use Rattle.console.specs.declared.reading.Reading.TheVariants.{Blank, Malformed, At}

@@ -7,10 +7,10 @@ use Rattle.std.proofs.lemmas.List.{map-append}
 use Rattle.std.proofs.lemmas.List.Elements.{All-nil, All-cons}
 use Rattle.std.specs.Prelude.{if◌then◌else◌, slice_get, nat_eq, unwrap_or, All, IfSome}
 use Rattle.std.specs.Option.{option_to_list}
-use Rattle.desk.specs.declared.command.Command.{Command}
-use Rattle.desk.specs.Played.{order, tick, tick_at, Act, ticks_since_end, ended_by}
-use Rattle.desk.specs.Meaning.{dark, frame, latest_frame}
-use Rattle.desk.proofs.FrameSlots.{frame_full}
+use Rattle.desk_core.specs.declared.command.Command.{Command}
+use Rattle.desk_core.specs.Played.{order, tick, tick_at, Act, ticks_since_end, ended_by}
+use Rattle.desk_core.specs.Meaning.{dark, frame, latest_frame}
+use Rattle.desk_core.proofs.FrameSlots.{frame_full}
 use Rattle.sacn_source.specs.Stream.{Packet, sends, packets, live_packet, newest_frame}
 use Rattle.sacn_source.proofs.Streams.{OffersFull, HoldsFull, packets_full, newest_is}
 use Rattle.console.specs.Streams.{Production, due_at, offer_at, offered_by, offers_of, packet_due}

@@ -4,17 +4,17 @@ use Rattle.std.proofs.Common.{Some, None, Ok, Err, Result, append-nil, append_as
 use Rattle.std.specs.Prelude.{Option}
 use Rattle.std.specs.Option.{option_map_or}
 use Rattle.std.proofs.lemmas.Bool.Decides.{nat_tests}
-use Rattle.fade.specs.Level.{Start}
+use Rattle.fade_core.specs.Level.{Start}
 use Rattle.devices.specs.Send.{Send}
-use Rattle.desk.specs.declared.answer.Refused.{Refused}
-use Rattle.desk.specs.declared.answer.Ticked.{Ticked}
-use Rattle.desk.specs.declared.answer.Ticked.TheVariants.{Live, Ending}
-use Rattle.desk.specs.declared.command.Command.{Command}
-use Rattle.desk.specs.DeskState.{DeskState}
-use Rattle.desk.specs.Meaning.{universe_numbers}
-use Rattle.desk.specs.Played.{Act, Call, ticks_since_end, ended_by, last_tick, outcome, refusal}
-use Rattle.desk.specs.Played.{order_at, tick_answer, tick_at}
-use Rattle.desk.specs.Stands as desk
+use Rattle.desk_core.specs.declared.answer.Refused.{Refused}
+use Rattle.desk_core.specs.declared.answer.Ticked.{Ticked}
+use Rattle.desk_core.specs.declared.answer.Ticked.TheVariants.{Live, Ending}
+use Rattle.desk_core.specs.declared.command.Command.{Command}
+use Rattle.desk_core.specs.DeskState.{DeskState}
+use Rattle.desk_core.specs.Meaning.{universe_numbers}
+use Rattle.desk_core.specs.Played.{Act, Call, ticks_since_end, ended_by, last_tick, outcome, refusal}
+use Rattle.desk_core.specs.Played.{order_at, tick_answer, tick_at}
+use Rattle.desk_core.specs.Stands as desk
 use Rattle.sacn_source.specs.Identity.{Identity}
 use Rattle.sacn_source.specs.Kept.{Lane}
 use Rattle.sacn_source.specs.Offering as sender

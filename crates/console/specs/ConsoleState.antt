@@ -1,6 +1,6 @@
 -- What a console keeps.
 use Rattle.std.specs.Prelude.{List}
-use Rattle.desk.specs.DeskState.{DeskState}
+use Rattle.desk_core.specs.DeskState.{DeskState}
 use Rattle.sacn_source.specs.Kept.{Lane}
 
 -- the desk, and the stream of each universe

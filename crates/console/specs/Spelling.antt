@@ -3,10 +3,10 @@ use Rattle.std.specs.Prelude.{ℕ, Bool, true, false, ◌&&◌, List, [], ◌∷
 use Rattle.std.specs.Prelude.{option_map, option_and_then, if◌then◌else◌, codes, drop}
 use Rattle.ascii_text.specs.Text.{words_of}
 use Rattle.ascii_text.specs.Forms.{same_word, moment_of, cue_number_of, level_of, time_of, whole_of}
-use Rattle.desk.specs.declared.command.Command.{Command}
-use Rattle.desk.specs.declared.command.Command.TheVariants.{Go, Back, Goto, GotoIn, Sub}
-use Rattle.desk.specs.declared.command.Command.TheVariants.{Group, Master, End}
-use Rattle.desk.specs.Played.{Act, order_at, tick_at}
+use Rattle.desk_core.specs.declared.command.Command.{Command}
+use Rattle.desk_core.specs.declared.command.Command.TheVariants.{Go, Back, Goto, GotoIn, Sub}
+use Rattle.desk_core.specs.declared.command.Command.TheVariants.{Group, Master, End}
+use Rattle.desk_core.specs.Played.{Act, order_at, tick_at}
 use Rattle.console.specs.declared.call.Call.{Call}
 use Rattle.console.specs.declared.call.Call.TheVariants.{Order, Tick}
 use Rattle.console.specs.declared.reading.Reading.{Reading}

@@ -1,10 +1,10 @@
 -- What a console keeps, against its history.
 use Rattle.std.specs.Prelude.{◌≡◌, List, ◌∷◌, None, All, ℕ}
-use Rattle.fade.specs.Level.{Start}
-use Rattle.desk.specs.DeskState.{DeskState}
-use Rattle.desk.specs.declared.answer.Ticked.{Ticked}
-use Rattle.desk.specs.Played.{Act, tick_at, ticks_since_end, refusal, tick_answer}
-use Rattle.desk.specs.Stands as desk
+use Rattle.fade_core.specs.Level.{Start}
+use Rattle.desk_core.specs.DeskState.{DeskState}
+use Rattle.desk_core.specs.declared.answer.Ticked.{Ticked}
+use Rattle.desk_core.specs.Played.{Act, tick_at, ticks_since_end, refusal, tick_answer}
+use Rattle.desk_core.specs.Stands as desk
 use Rattle.sacn_source.specs.Kept.{Lane}
 use Rattle.sacn_source.specs.Stands as sender
 use Rattle.console.specs.ConsoleState.{ConsoleState}

@@ -1,10 +1,10 @@
 -- The stream of each universe of a console: what is offered to it, and what is due at a tick.
 -- Histories and lists of offers have the newest entry first.
 use Rattle.std.specs.Prelude.{ℕ, ◌-◌, List, [], ◌∷◌, Option, Some, None, length, map, unwrap_or}
-use Rattle.show.specs.Tables.{Tables}
-use Rattle.desk.specs.declared.command.Command.{Command}
-use Rattle.desk.specs.Played.{Call, order, tick, Act, ticks_since_end}
-use Rattle.desk.specs.Meaning.{frame, universe_numbers}
+use Rattle.show_core.specs.Tables.{Tables}
+use Rattle.desk_core.specs.declared.command.Command.{Command}
+use Rattle.desk_core.specs.Played.{Call, order, tick, Act, ticks_since_end}
+use Rattle.desk_core.specs.Meaning.{frame, universe_numbers}
 use Rattle.sacn_source.specs.Identity.{Identity}
 use Rattle.sacn_source.specs.Stream.{Offer, Packet, due_packet, last_packet, packets}
 

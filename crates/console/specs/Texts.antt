@@ -1,12 +1,12 @@
 -- What is printed of a console's answers.
 use Rattle.std.specs.Prelude.{ℕ, List, ◌++◌, codes, decimal, flat_map}
-use Rattle.desk.specs.declared.answer.Refused.{Refused}
-use Rattle.desk.specs.declared.answer.Refused.TheVariants.{Backwards, MomentTooLarge, Ended}
-use Rattle.desk.specs.declared.answer.Refused.TheVariants.{TooSoon}
-use Rattle.desk.specs.declared.answer.Refused.TheVariants.{AtEnd, AtStart, NoCue, NoSub}
-use Rattle.desk.specs.declared.answer.Refused.TheVariants.{NoGroup}
-use Rattle.desk.specs.declared.answer.Ticked.{Ticked}
-use Rattle.desk.specs.declared.answer.Ticked.TheVariants.{Live, Ending}
+use Rattle.desk_core.specs.declared.answer.Refused.{Refused}
+use Rattle.desk_core.specs.declared.answer.Refused.TheVariants.{Backwards, MomentTooLarge, Ended}
+use Rattle.desk_core.specs.declared.answer.Refused.TheVariants.{TooSoon}
+use Rattle.desk_core.specs.declared.answer.Refused.TheVariants.{AtEnd, AtStart, NoCue, NoSub}
+use Rattle.desk_core.specs.declared.answer.Refused.TheVariants.{NoGroup}
+use Rattle.desk_core.specs.declared.answer.Ticked.{Ticked}
+use Rattle.desk_core.specs.declared.answer.Ticked.TheVariants.{Live, Ending}
 use Rattle.sacn_source.specs.declared.offered.Offered.{Offered}
 use Rattle.sacn_source.specs.declared.offered.Offered.TheVariants.{Sent, Lost, Quiet}
 

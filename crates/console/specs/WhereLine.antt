@@ -2,7 +2,7 @@
 use Rattle.std.specs.Prelude.{ℕ, ◌==◌, if◌then◌else◌, List, [], ◌++◌, codes, decimal, flat_map}
 use Rattle.std.specs.Prelude.{Option, Some, None}
 use Rattle.std.specs.List.{range_with_len}
-use Rattle.masters.specs.Settings.{Setting, grand_after, group_after, sub_after}
+use Rattle.master_core.specs.Settings.{Setting, grand_after, group_after, sub_after}
 use Rattle.console.specs.CueLine.{cue_text}
 use Rattle.console.specs.Texts.{moment_line}
 

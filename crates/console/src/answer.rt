@@ -4,7 +4,7 @@ ghost use Rattle.console.specs.Texts.{outcome_text, pair_text, ticked_name, tick
 
 use crate::offers::Offers;
 use arrayvec::ArrayString;
-use desk::{Refused, Ticked};
+use desk_core::{Refused, Ticked};
 use itoa::Buffer;
 use sacn_source::Offered;
 

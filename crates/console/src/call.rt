@@ -3,7 +3,7 @@ ghost use Rattle.console.specs.Spelling.{call_of, command_of, command_with, word
 ghost use Rattle.console.specs.Spelling.{with_none, with_one, with_two, with_three};
 
 use ascii_text::{Words, cue_number, level, same_word, time, whole};
-use desk::Command;
+use desk_core::Command;
 
 /// A call of a console, without its moment.
 #[derive(Clone, Copy, Debug, PartialEq, Eq)]

@@ -1,6 +1,6 @@
 ghost use Rattle.std.specs.Prelude.{◌≡◌, ◌≢◌, ℕ, List, ◌∷◌, Contains};
-ghost use Rattle.desk.specs.Meaning.{universe_numbers};
-ghost use Rattle.desk.specs.Played.{Act, tick_at};
+ghost use Rattle.desk_core.specs.Meaning.{universe_numbers};
+ghost use Rattle.desk_core.specs.Played.{Act, tick_at};
 ghost use Rattle.sacn_source.specs.Offering.{Offers as OffersOne};
 ghost use Rattle.sacn_source.specs.Stands.{lane_of, lane_universes};
 ghost use Rattle.console.specs.Offering.{OffersDues as OffersTo};
@@ -8,8 +8,8 @@ ghost use Rattle.console.specs.Stands.{HasStream, HasStreams, IsMidTick};
 ghost use Rattle.console.specs.Streams.{Due, Production, due_at, dues_at};
 
 use crate::offers::Offers;
-use desk::{Desk, Ticked};
-use fade::Fader;
+use desk_core::{Desk, Ticked};
+use fade_core::Fader;
 use sacn_source::{Link, Offered, Sender};
 
 // An accepted tick, and what the desk answered to it.

@@ -1,13 +1,13 @@
 ghost use Rattle.std.specs.Prelude.{◌≡◌, ◌≤◌, ◌+◌, ◌++◌, List, length, codes};
-ghost use Rattle.masters.specs.Settings.{Setting, StandsFor};
+ghost use Rattle.master_core.specs.Settings.{Setting, StandsFor};
 ghost use Rattle.console.specs.WhereLine.{cue_part, groups_text, master_text, subs_text};
 ghost use Rattle.console.specs.WhereLine.{where_line};
 
 use crate::move_line::cue_number;
 use arrayvec::ArrayString;
 use itoa::Buffer;
-use masters::Masters;
-use show::{GROUPS, SUBMASTERS};
+use master_core::Masters;
+use show_core::{GROUPS, SUBMASTERS};
 
 /// The line of `where`: there is room for a moment of 20 digits, two cue numbers, the grand master,
 /// and each submaster and each group at full.

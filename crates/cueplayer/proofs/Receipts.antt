@@ -2,7 +2,7 @@
 use Rattle.cueplayer.proofs.Terms.{◌≡◌, ℕ, suc, refl, ap, sym, arith, List, [], ◌∷◌, map, length}
 use Rattle.cueplayer.proofs.Terms.{◌∙◌, max, Packet, Delivery, IsFreshIn, Receipt, newest_of}
 use Rattle.cueplayer.proofs.Terms.{IsInWindow, arrival_of_newest, IsFresh, is_silent}
-use Rattle.rehearsal.specs.Delivery as wire
+use Rattle.wire_world.specs.Delivery as wire
 use Rattle.cueplayer.proofs.Sources as sources
 
 abbrev pub receipt : Delivery → Receipt

@@ -5,10 +5,10 @@ use Rattle.std.proofs.Common.{◌≡◌, ℕ, zero, suc, ◌<◌, ◌≤◌, Lis
 use Rattle.std.proofs.Common.{replicate, refl, arith, ◌∙◌, sym, subst, false, inl, ap, ◌⊎◌}
 use Rattle.std.proofs.Common.{◌++◌}
 use Rattle.std.specs.Prelude.{codes, slice_index}
-use Rattle.desk.specs.declared.command.Command.TheVariants.{Go}
-use Rattle.desk.specs.Meaning.{dark}
-use Rattle.desk.proofs.Small.{small, cues, numbers, first_at, frame_1000}
-use Rattle.desk.proofs.Small.{frame_2000, no_move}
+use Rattle.desk_core.specs.declared.command.Command.TheVariants.{Go}
+use Rattle.desk_core.specs.Meaning.{dark}
+use Rattle.desk_core.proofs.Small.{small, cues, numbers, first_at, frame_1000}
+use Rattle.desk_core.proofs.Small.{frame_2000, no_move}
 use Rattle.devices.specs.Send.{Send}
 use Rattle.sacn_source.specs.declared.offered.Offered.TheVariants.{Sent}
 use Rattle.sacn_source.specs.Identity.{Identity}
@@ -21,8 +21,8 @@ use Rattle.console.specs.declared.call.Call.TheVariants.{Order, Tick}
 use Rattle.console.specs.declared.reading.Reading.TheVariants.{At}
 use Rattle.console.specs.Spelling.{reading_of}
 use Rattle.cmd_play.specs.Run.{CarriedLine, IsRun, dues_after, history_of}
-use Rattle.rehearsal.specs.Datagrams.{packet_bytes}
-use Rattle.rehearsal.proofs.Wire.{is_data, IsSendable}
+use Rattle.wire_world.specs.Datagrams.{packet_bytes}
+use Rattle.wire_world.proofs.Wire.{is_data, IsSendable}
 use Rattle.cueplayer.specs.Plays.{Play, IsPlay, ArePlays, stream_for, frame_for}
 use Rattle.cueplayer.specs.Traffic.{Traffic, TracedArrival, datagrams_in, receipts, receipts_of}
 use Rattle.cueplayer.specs.Traffic.{IsInWindow, slots_at}

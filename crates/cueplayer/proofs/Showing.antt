@@ -19,7 +19,7 @@ use Rattle.cueplayer.proofs.Terms.{light, lights, IsSend, IsSendOf, AreSettled, 
 use Rattle.cueplayer.proofs.Terms.{HearsAll, UnpatchedSlotsAreZero, SendsStay, sent_to, sent_more}
 use Rattle.cueplayer.proofs.Terms.{WindowLaw, SilenceIsDark, IsOneOf}
 use Rattle.std.specs.Prelude.{is_some}
-use Rattle.rehearsal.specs.Delivery as wire
+use Rattle.wire_world.specs.Delivery as wire
 use Rattle.cueplayer.proofs.Sources as sources
 use Rattle.cueplayer.proofs.Sources.{entry_at, shown_is, is_loud, near, IsNear}
 use Rattle.cueplayer.proofs.Receipts.{receipt, receipts_in, window_same, fresh_same, silent_same}

@@ -15,7 +15,7 @@ use Rattle.cueplayer.proofs.Terms.{in_from_get_or, in_from_place, place_from_in,
 use Rattle.cueplayer.proofs.Terms.{IsFreshIn, entry, AreInTime, In_accepted, Coming, own}
 use Rattle.cueplayer.proofs.Terms.{own_in_time, own_from, KeptOne, kept_of, history, lit_by}
 use Rattle.cueplayer.proofs.Terms.{shown_lit, silent_at, fresh_parts, one_light}
-use Rattle.rehearsal.specs.Delivery.{newest_of, IsInWindow}
+use Rattle.wire_world.specs.Delivery.{newest_of, IsInWindow}
 
 -- none of these came less than 2,500 ms before moment t
 abbrev pub is_silent : ℕ → List Delivery → Bool

@@ -40,13 +40,13 @@ pub use Rattle.cmd_faults.specs.declared.fault.RunFault.{RunFault}
 pub use Rattle.cmd_live.specs.Night.{LivedOn, Lives, Trace, answers_since, trace_of}
 pub use Rattle.cmd_live.proofs.Living.{history_joined, history_since}
 pub use Rattle.devices.specs.Send.{Send}
-pub use Rattle.desk.specs.declared.answer.Refused.{Refused}
-pub use Rattle.desk.specs.declared.command.Command.{Command}
-pub use Rattle.desk.specs.declared.command.Command.TheVariants.{End, Master}
-pub use Rattle.desk.specs.Meaning.{latest_frame, dark}
-unfoldable pub use Rattle.desk.specs.Meaning.{frame, universe_numbers}
-pub use Rattle.desk.specs.Played.{Act, order, refusal, ticks_since_end}
-pub use Rattle.show.specs.Tables.{Tables, PatchMap}
+pub use Rattle.desk_core.specs.declared.answer.Refused.{Refused}
+pub use Rattle.desk_core.specs.declared.command.Command.{Command}
+pub use Rattle.desk_core.specs.declared.command.Command.TheVariants.{End, Master}
+pub use Rattle.desk_core.specs.Meaning.{latest_frame, dark}
+unfoldable pub use Rattle.desk_core.specs.Meaning.{frame, universe_numbers}
+pub use Rattle.desk_core.specs.Played.{Act, order, refusal, ticks_since_end}
+pub use Rattle.show_core.specs.Tables.{Tables, PatchMap}
 pub use Rattle.live_input.specs.Keys.{without_keys}
 pub use Rattle.live_input.specs.Laws.{accepted_acts}
 pub use Rattle.live_input.specs.Night.{Answer, Happening, answer_to, answers, behind_moment}
@@ -61,8 +61,8 @@ pub use Rattle.std.specs.List.{range_with_len, AllPairs, list_any, list_all}
 pub use Rattle.std.specs.Ordering.{nat_cmp, eq_by_cmp}
 pub use Rattle.std.proofs.lemmas.Bool.Decides.{nat_tests}
 pub use Rattle.std.proofs.lemmas.List.Folds.{list_any_at, list_any_none}
-pub use Rattle.patch.proofs.Frames.{same_key}
-pub use Rattle.show.specs.Readers.{has_dimmer_in, ordinal_of}
+pub use Rattle.patch_core.proofs.Frames.{same_key}
+pub use Rattle.show_core.specs.Readers.{has_dimmer_in, ordinal_of}
 pub use Rattle.show_line.specs.Said.{desk_limits}
 pub use Rattle.show_reader.specs.Keys.{Dimmer}
 pub use Rattle.show_reader.specs.Reading.{text_fault}
@@ -78,8 +78,8 @@ pub use Rattle.ascii_text.specs.Lines.{Cut, cut_of, with_byte}
 pub use Rattle.cmd_play.specs.Play.{PlayEndsEarly}
 pub use Rattle.cmd_play.specs.Stage.{PlayLeaves}
 pub use Rattle.sacn_source.specs.Stream.{Packet}
-pub use Rattle.rehearsal.specs.Delivery.{Delivery}
-pub use Rattle.rehearsal.specs.Laws.{IsFreshIn, is_live}
+pub use Rattle.wire_world.specs.Delivery.{Delivery}
+pub use Rattle.wire_world.specs.Laws.{IsFreshIn, is_live}
 pub use Rattle.std.proofs.lemmas.Bool.{cond_both, eq-eqb, eqb-true, cond-true, lt-ltb, le-ltb}
 pub use Rattle.std.proofs.lemmas.Bool.{ltb-true, and_parts, cases_lt}
 pub use Rattle.std.proofs.lemmas.List.Sums.{fold-append}
@@ -87,8 +87,8 @@ pub use Rattle.live_input.proofs.Records.{records_recalled}
 pub use Rattle.std.specs.Option.{option_map, option_to_list}
 pub use Rattle.std.proofs.lemmas.List.Elements.{All-contains, All-map}
 pub use Rattle.std.proofs.lemmas.List.Kept.{AllPairs-from_increasing}
-pub use Rattle.patch.specs.Frame.{is_universe}
-pub use Rattle.desk.proofs.Universes.{numbers_in, numbers_rise}
+pub use Rattle.patch_core.specs.Frame.{is_universe}
+pub use Rattle.desk_core.proofs.Universes.{numbers_in, numbers_rise}
 pub use Rattle.sacn_source.specs.Identity.{Identity}
 pub use Rattle.sacn_source.specs.declared.offered.Offered.{Offered}
 pub use Rattle.sacn_source.specs.declared.offered.Offered.TheVariants.{Quiet}
@@ -97,15 +97,15 @@ pub use Rattle.sacn_source.proofs.Streams.{HoldsFull}
 pub use Rattle.sacn_receiver.proofs.Members.{In, by_test, in_from_place, In_map, place_from_in}
 pub use Rattle.sacn_receiver.proofs.Members.{In_mapped, in_from_get_or, In_filter, In_filtered}
 pub use Rattle.console.specs.declared.reading.Reading.{Reading}
-unfoldable pub use Rattle.rehearsal.specs.Datagrams.{packet_bytes}
-pub use Rattle.rehearsal.specs.Sends.{packet_run, sent_to}
-pub use Rattle.rehearsal.specs.World.{IsConsole, plays}
-pub use Rattle.rehearsal.proofs.Linked.{sent_due, sent_more, stream_ticked, numbered_at}
-pub use Rattle.rehearsal.proofs.Wire.{is_data, played_in, IsSendable, source_of, unheard_there}
-pub use Rattle.rehearsal.proofs.Wire.{bytes_are, heard_here, entry_is, entry}
+unfoldable pub use Rattle.wire_world.specs.Datagrams.{packet_bytes}
+pub use Rattle.wire_world.specs.Sends.{packet_run, sent_to}
+pub use Rattle.wire_world.specs.World.{IsConsole, plays}
+pub use Rattle.wire_world.proofs.Linked.{sent_due, sent_more, stream_ticked, numbered_at}
+pub use Rattle.wire_world.proofs.Wire.{is_data, played_in, IsSendable, source_of, unheard_there}
+pub use Rattle.wire_world.proofs.Wire.{bytes_are, heard_here, entry_is, entry}
 pub use Rattle.std.proofs.lemmas.Option.{slice_get_within, get_or_from_slice_get, same_Some}
 pub use Rattle.sacn_source.specs.Identify.{options_of}
-pub use Rattle.rehearsal.specs.Happened.{packets_of}
+pub use Rattle.wire_world.specs.Happened.{packets_of}
 pub use Rattle.cueplayer.specs.Laws.{SendsAreTheStream, SendsAreAddressed, Headline, MergeLaw}
 pub use Rattle.cueplayer.specs.Laws.{light, lights, IsSend, IsSendOf, AreSettled, HearsOne}
 pub use Rattle.cueplayer.specs.Laws.{HearsAll, UnpatchedSlotsAreZero, SendsStay, WindowLaw}
@@ -116,12 +116,12 @@ pub use Rattle.sacn_packet.specs.Reading.{front_packet}
 pub use Rattle.sacn_receiver.specs.declared.answer.Ignored.{Ignored}
 pub use Rattle.sacn_receiver.specs.Laws.{accepted_packets}
 pub use Rattle.sacn_receiver.proofs.Independent.{heard_accepted, sources_independent}
-pub use Rattle.desk.proofs.FrameSlots.{latest_full, unpatched_latest}
+pub use Rattle.desk_core.proofs.FrameSlots.{latest_full, unpatched_latest}
 pub use Rattle.console.proofs.Streams.{latest}
-pub use Rattle.rehearsal.proofs.Came.{AreInTime, later_too, own, own_from, In_accepted, Coming}
-pub use Rattle.rehearsal.proofs.Came.{own_in_time}
-pub use Rattle.rehearsal.proofs.Shown.{same_slots, dark_slots, one_light, KeptOne, kept_of, history}
-pub use Rattle.rehearsal.proofs.Shown.{lit_by, shown_lit, silent_at, fresh_parts}
+pub use Rattle.wire_world.proofs.Came.{AreInTime, later_too, own, own_from, In_accepted, Coming}
+pub use Rattle.wire_world.proofs.Came.{own_in_time}
+pub use Rattle.wire_world.proofs.Shown.{same_slots, dark_slots, one_light, KeptOne, kept_of, history}
+pub use Rattle.wire_world.proofs.Shown.{lit_by, shown_lit, silent_at, fresh_parts}
 pub use Rattle.std.specs.Str.{bytes_eq}
 pub use Rattle.std.proofs.lemmas.Cmp.{nat_list_eq_equiv}
 pub use Rattle.sacn_receiver.specs.Source.{Entry, same_cid, is_there}

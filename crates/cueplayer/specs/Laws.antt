@@ -6,12 +6,12 @@ use Rattle.std.specs.List.{range_with_len}
 use Rattle.std.specs.FinMap as maps
 use Rattle.std.specs.Str.{bytes_eq}
 use Rattle.devices.specs.Send.{Send}
-use Rattle.desk.specs.Meaning.{dark}
+use Rattle.desk_core.specs.Meaning.{dark}
 use Rattle.sacn_source.specs.Stream.{Packet}
 use Rattle.sacn_receiver.specs.Arrivals.{not_heard}
 use Rattle.sacn_receiver.specs.Shown.{Light, merged_slot}
-use Rattle.rehearsal.specs.Laws.{is_live}
-use Rattle.rehearsal.specs.Sends.{packet_run}
+use Rattle.wire_world.specs.Laws.{is_live}
+use Rattle.wire_world.specs.Sends.{packet_run}
 use Rattle.cueplayer.specs.Plays.{Play, IsPlay, play_at, ArePlays, play_history, sends_for}
 use Rattle.cueplayer.specs.Plays.{stream_for}
 use Rattle.cueplayer.specs.Plays.{frame_for}

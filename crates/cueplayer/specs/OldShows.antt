@@ -1,10 +1,10 @@
 -- Shows of a desk with less room.
 use Rattle.std.specs.Prelude.{◌≡◌, ℕ, ◌+◌, List, None, filter, map}
 use Rattle.std.specs.List.{range_with_len}
-use Rattle.desk.specs.Meaning.{frame, universe_numbers}
-use Rattle.desk.specs.Played.{Act}
-use Rattle.show.specs.Readers.{has_dimmer_in}
-use Rattle.show.specs.Tables.{Tables}
+use Rattle.desk_core.specs.Meaning.{frame, universe_numbers}
+use Rattle.desk_core.specs.Played.{Act}
+use Rattle.show_core.specs.Readers.{has_dimmer_in}
+use Rattle.show_core.specs.Tables.{Tables}
 use Rattle.show_line.specs.Pairs.{Limits}
 use Rattle.show_line.specs.Said.{desk_limits}
 use Rattle.show_reader.specs.Reading.{text_fault}

@@ -2,14 +2,14 @@
 -- have the newest first.
 use Rattle.std.specs.Prelude.{◌≡◌, ℕ, ◌-◌, ◌<◌, List, [], length, slice_index_or}
 use Rattle.devices.specs.Send.{Send}
-use Rattle.desk.specs.Meaning.{latest_frame}
-use Rattle.desk.specs.Played.{Act}
+use Rattle.desk_core.specs.Meaning.{latest_frame}
+use Rattle.desk_core.specs.Played.{Act}
 use Rattle.sacn_source.specs.Stream.{Packet}
 use Rattle.console.specs.Streams.{Production}
 use Rattle.cmd_play.specs.Run.{CarriedLine, IsRun, history_of, lines_of_run, sends_of_run}
-use Rattle.rehearsal.specs.World.{no_console}
-use Rattle.rehearsal.specs.Happened.{packets_of}
-use Rattle.rehearsal.specs.Sends.{sent_to}
+use Rattle.wire_world.specs.World.{no_console}
+use Rattle.wire_world.specs.Happened.{packets_of}
+use Rattle.wire_world.specs.Sends.{sent_to}
 
 -- a production, the lines that were carried out, and the sends that the link was offered at them,
 -- in order

@@ -3,9 +3,9 @@
 use Rattle.std.specs.Prelude.{◌≡◌, ℕ, ◌-◌, ◌++◌, List, ◌∷◌, reverse, Result}
 use Rattle.devices.specs.Send.{Send}
 use Rattle.devices.specs.Tape.{Tape, with_more}
-use Rattle.desk.specs.Meaning.{latest_frame}
+use Rattle.desk_core.specs.Meaning.{latest_frame}
 use Rattle.sacn_receiver.specs.Replies.{slots_line}
-use Rattle.show.specs.Tables.{Tables}
+use Rattle.show_core.specs.Tables.{Tables}
 use Rattle.console.specs.Streams.{Production}
 use Rattle.cmd_faults.specs.declared.fault.RunFault.{RunFault}
 use Rattle.ascii_text.specs.Lines.{Cut}

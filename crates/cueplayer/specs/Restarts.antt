@@ -3,7 +3,7 @@
 use Rattle.std.specs.Prelude.{◌≡◌, ◌≤◌, ◌<◌, ◌-◌, ◌++◌, ℕ, IsTrue, List, [], ◌∷◌, Result, length}
 use Rattle.std.specs.Prelude.{slice_index, take}
 use Rattle.devices.specs.Send.{Send}
-use Rattle.desk.specs.Meaning.{latest_frame}
+use Rattle.desk_core.specs.Meaning.{latest_frame}
 use Rattle.sacn_source.specs.declared.offered.Offered.{Offered}
 use Rattle.console.specs.Offering.{AreOffered}
 use Rattle.console.specs.Streams.{Production}
@@ -16,8 +16,8 @@ use Rattle.cmd_play.specs.Run.{CarriedLine, IsRunFrom, dues_after, history_from,
 use Rattle.cmd_play.specs.Run.{lines_of_run, sends_of_run}
 use Rattle.live_input.specs.Night.{Happening, answers, lines_given}
 use Rattle.live_input.specs.Recall.{AreRecalled, recall_of}
-use Rattle.rehearsal.specs.Sends.{sent_to}
-use Rattle.rehearsal.specs.World.{IsConsole}
+use Rattle.wire_world.specs.Sends.{sent_to}
+use Rattle.wire_world.specs.World.{IsConsole}
 use Rattle.cueplayer.specs.Laws.{AreSettled, HearsAll, HearsOne, is_lit}
 use Rattle.cueplayer.specs.Plays.{ArePlays, IsPlay, Play, frame_for, play_history, play_at}
 use Rattle.cueplayer.specs.Plays.{sends_for}

@@ -7,7 +7,7 @@ use crate::reading::{file_text, script_text, show_text};
 use crate::standard::HeldStandard;
 use cmd_faults::RunFault;
 use cmd_words::{Job, Name};
-use fade::StepFader;
+use fade_core::StepFader;
 use remarks::{Failure, JobFault, Remark};
 use show_jobs::{CueLook, CueSlots, check_show, explain_show, list_cues, look_at, show_slots};
 use std::io::{BufWriter, Stdout};

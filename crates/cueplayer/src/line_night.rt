@@ -7,7 +7,7 @@ use crate::standard::HeldStandard;
 use cmd_faults::RunFault;
 use cmd_play::{Setup, play};
 use cmd_words::Night;
-use fade::StepFader;
+use fade_core::StepFader;
 use job_devices::JobOutput;
 use remarks::{Failure, JobFault, LostPacket, Remark};
 use show_jobs::{identity, seeming_remark};

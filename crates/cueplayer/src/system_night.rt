@@ -13,7 +13,7 @@ use crate::own_record::OwnRecord;
 use crate::start_lines::StartLines;
 use cmd_live::{Backup, Night, Silent, Spare};
 use devices::Link;
-use fade::{Fader, StepFader};
+use fade_core::{Fader, StepFader};
 use live_machine::{FollowEnd, MainLines, NightRole, NightSystem};
 use night_lines::{leading_line, over_line};
 use night_opening::{new_night, new_recording, open_night, place_of};

@@ -6,8 +6,8 @@ use Rattle.live_input.proofs.Terms.{Act, last_act_moment, last_tick, Stage, On, 
 use Rattle.live_input.proofs.Terms.{accepted_acts, since_end, acts_with, Answer, Happening}
 use Rattle.live_input.proofs.Terms.{answer_to, answers, asked, next_tick, close, dim, is_on}
 use Rattle.live_input.proofs.Terms.{is_through, now, order, stage, stage_by, tick}
-use Rattle.desk.specs.Played as desk
-use Rattle.desk.specs.Played.{refusal}
+use Rattle.desk_core.specs.Played as desk
+use Rattle.desk_core.specs.Played.{refusal}
 use Rattle.live_input.proofs.Asked.{is_end}
 use Rattle.live_input.proofs.Cases.{Keeps, Next, answer_is_next, clock_below, through}
 use Rattle.live_input.proofs.Cases.{closes, darkens, dims, leaves, takes, ticks}

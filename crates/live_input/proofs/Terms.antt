@@ -10,12 +10,12 @@ pub use Rattle.std.specs.Option.{option_map_or}
 pub use Rattle.std.proofs.lemmas.Bool.{cond_both, leb-true, and_parts, le-leb, not-true}
 pub use Rattle.std.proofs.lemmas.Bool.{agree_below, agree_below_at}
 pub use Rattle.std.proofs.lemmas.Bool.Decides.{nat_tests}
-pub use Rattle.show.specs.Tables.{Tables}
-pub use Rattle.masters.specs.Settings.{Setting}
-pub use Rattle.desk.specs.declared.command.Command.{Command}
-pub use Rattle.desk.specs.declared.command.Command.TheVariants.{End, Master, Go, Back, Goto, GotoIn}
-pub use Rattle.desk.specs.declared.command.Command.TheVariants.{Sub, Group}
-pub use Rattle.desk.specs.Played.{Act, last_act_moment, last_tick}
+pub use Rattle.show_core.specs.Tables.{Tables}
+pub use Rattle.master_core.specs.Settings.{Setting}
+pub use Rattle.desk_core.specs.declared.command.Command.{Command}
+pub use Rattle.desk_core.specs.declared.command.Command.TheVariants.{End, Master, Go, Back, Goto, GotoIn}
+pub use Rattle.desk_core.specs.declared.command.Command.TheVariants.{Sub, Group}
+pub use Rattle.desk_core.specs.Played.{Act, last_act_moment, last_tick}
 pub use Rattle.live_input.specs.declared.progress.Stage.{Stage}
 pub use Rattle.live_input.specs.declared.progress.Stage.TheVariants.{On, Dark, Ended}
 pub use Rattle.live_input.specs.Laws.{IsDim, accepted_acts, since_end, acts_with, IsOn, IsEnding}

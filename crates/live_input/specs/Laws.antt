@@ -5,12 +5,12 @@ use Rattle.std.specs.Prelude.{None, All, length, codes, flat_map, reverse}
 use Rattle.std.specs.Prelude.{Bool, is_none, option_map, replicate, if◌then◌else◌}
 use Rattle.std.specs.List.{filter_map, list_any}
 use Rattle.ascii_text.specs.Text.{lines_of, words_of}
-use Rattle.show.specs.Tables.{Tables}
-use Rattle.masters.specs.Settings.{Setting, grand_after}
-use Rattle.desk.specs.Played as desk
-use Rattle.desk.specs.Played.{Act, refusal}
-use Rattle.desk.specs.declared.command.Command.{Command}
-use Rattle.desk.specs.declared.command.Command.TheVariants.{End, Master}
+use Rattle.show_core.specs.Tables.{Tables}
+use Rattle.master_core.specs.Settings.{Setting, grand_after}
+use Rattle.desk_core.specs.Played as desk
+use Rattle.desk_core.specs.Played.{Act, refusal}
+use Rattle.desk_core.specs.declared.command.Command.{Command}
+use Rattle.desk_core.specs.declared.command.Command.TheVariants.{End, Master}
 use Rattle.console.specs.declared.call.Call.TheVariants.{Order, Tick}
 use Rattle.console.specs.declared.reading.Reading.TheVariants.{At}
 use Rattle.console.specs.Spelling.{command_of, is_malformed, reading_of}

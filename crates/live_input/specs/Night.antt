@@ -6,9 +6,9 @@ use Rattle.std.specs.Prelude.{unwrap_or}
 use Rattle.std.specs.Option.{option_map_or}
 use Rattle.ascii_text.specs.Forms.{same_word}
 use Rattle.ascii_text.specs.Text.{words_of}
-use Rattle.desk.specs.declared.command.Command.{Command}
+use Rattle.desk_core.specs.declared.command.Command.{Command}
 use Rattle.console.specs.Spelling.{command_of}
-use Rattle.desk.specs.declared.command.Command.TheVariants.{End}
+use Rattle.desk_core.specs.declared.command.Command.TheVariants.{End}
 use Rattle.live_input.specs.declared.progress.Stage.{Stage}
 use Rattle.live_input.specs.declared.progress.Stage.TheVariants.{On, Dark, Ended}
 use Rattle.live_input.specs.declared.reason.Reason.{Reason}

@@ -1,6 +1,6 @@
 -- A record whose lines are given again. Lines, happenings and answers have the newest first.
 use Rattle.std.specs.Prelude.{◌≡◌, ◌≤◌, ℕ, ◌+◌, List, [], ◌∷◌, ◌++◌, codes, decimal, drop, length}
-use Rattle.desk.specs.declared.command.Command.TheVariants.{End}
+use Rattle.desk_core.specs.declared.command.Command.TheVariants.{End}
 use Rattle.console.specs.declared.call.Call.{Call}
 use Rattle.console.specs.declared.call.Call.TheVariants.{Order, Tick}
 use Rattle.console.specs.declared.reading.Reading.{Reading}

@@ -11,7 +11,7 @@ use crate::keys::has_keys;
 use crate::progress::Progress;
 use crate::typed::TypedLines;
 use console::{Call, Reading, read_call};
-use desk::{Command, MOMENTS};
+use desk_core::{Command, MOMENTS};
 use itoa::Buffer;
 use std::marker::Model;
 

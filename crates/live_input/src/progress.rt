@@ -11,7 +11,7 @@ use crate::given::{Given, given_line, refused_text};
 use crate::keys::without_keys;
 use crate::request::{Request, request_of};
 use console::Call;
-use desk::{Command, ENDING_TICKS, SHORTEST_GAP};
+use desk_core::{Command, ENDING_TICKS, SHORTEST_GAP};
 
 // Ticks come on a grid, 40 a second.
 const GRID: u64 = 25;

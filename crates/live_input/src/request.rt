@@ -7,7 +7,7 @@ use crate::given::fits;
 use crate::reason::{Reason, reason_of};
 use ascii_text::{Words, same_word};
 use console::command_in;
-use desk::Command;
+use desk_core::Command;
 
 /// What a typed line asks for.
 #[derive(Clone, Copy, Debug)]

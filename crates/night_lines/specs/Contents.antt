@@ -1,6 +1,6 @@
 -- What is told of a show at the start of a night.
 use Rattle.std.specs.Prelude.{ℕ, ◌==◌, if◌then◌else◌, List, [], ◌++◌, codes, decimal}
-use Rattle.show.specs.declared.show.Counts.{Counts}
+use Rattle.show_core.specs.declared.show.Counts.{Counts}
 
 -- so many of what has this name: 1 cue, 2 cues
 abbrev pub count_text : ℕ → List ℕ → List ℕ

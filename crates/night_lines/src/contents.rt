@@ -4,7 +4,7 @@ ghost use Rattle.night_lines.specs.Contents.{skipped_lines_text, with_advice};
 
 use arrayvec::ArrayString;
 use itoa::Buffer;
-use show::Counts;
+use show_core::Counts;
 
 /// The line of what a show has: six numbers of 20 digits have room.
 pub type ContentsLine = ArrayString<280>;

@@ -12,7 +12,7 @@ use crate::sends::{Transmission, sends_line};
 use crate::start_network::{StartNetwork, tell_network};
 use crate::target_lines::{sole_target, target_line};
 use crate::teller::LineTeller;
-use show::Counts;
+use show_core::Counts;
 use targets::{Target, Targets};
 
 /// What is told of a show at the start of a night.

@@ -6,8 +6,8 @@ use Rattle.std.proofs.lemmas.Bool.Decides.{nat_tests}
 use Rattle.std.proofs.Common.{Result, Ok, Err, inr}
 use Rattle.cmd_words.specs.declared.job.Night.{Night}
 use Rattle.remarks.specs.declared.failure.JobFault.{JobFault}
-use Rattle.show.specs.Readers.{patch_ordinals}
-use Rattle.show.specs.Tables.{Tables}
+use Rattle.show_core.specs.Readers.{patch_ordinals}
+use Rattle.show_core.specs.Tables.{Tables}
 use Rattle.show_line.specs.Said.{desk_limits}
 use Rattle.show_reader.specs.Shows.{IsShowOf}
 use Rattle.show_reader.specs.Text.{statements_of}

@@ -3,8 +3,8 @@ use Rattle.std.proofs.Common.{◌≡◌, false, None, inl, inr, refl}
 use Rattle.cmd_faults.specs.declared.fault.RunFault.TheVariants as run
 use Rattle.night_opening.specs.NightStarts.{IsUntold}
 use Rattle.night_opening.specs.declared.night_start.NightAtStart.{NightAtStart}
-use Rattle.patch.specs.Frame.{is_base}
-use Rattle.show.specs.Tables.{Tables}
+use Rattle.patch_core.specs.Frame.{is_base}
+use Rattle.show_core.specs.Tables.{Tables}
 use Rattle.show_line.specs.Said.{desk_limits}
 use Rattle.show_reader.specs.Reading.{text_fault}
 use Rattle.show_reader.specs.Shows.{IsShowOf}

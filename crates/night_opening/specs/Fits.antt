@@ -2,7 +2,7 @@
 use Rattle.std.specs.Prelude.{◌≡◌, ◌⊎◌, ◌+◌, ℕ, Bool, List, Option, Some, None, Result}
 use Rattle.std.specs.Prelude.{Ok, Err, if◌then◌else◌, map, nat_le}
 use Rattle.std.specs.List.{list_all}
-use Rattle.show.specs.Readers.{patch_ordinals}
+use Rattle.show_core.specs.Readers.{patch_ordinals}
 use Rattle.show_line.specs.Said.{desk_limits}
 use Rattle.show_reader.specs.ItsShow.{OfItsShow}
 use Rattle.show_reader.specs.Reading.{text_fault}

@@ -21,11 +21,11 @@ use Rattle.night_lines.specs.declared.start.NightStart.{NightStart}
 use Rattle.night_lines.specs.declared.start_network.StartNetwork.{StartNetwork}
 use Rattle.night_opening.specs.declared.night_start.NightAtStart.{NightAtStart}
 use Rattle.night_opening.specs.declared.night_start.ShownTexts.{ShownTexts}
-use Rattle.patch.specs.Frame.{is_base}
+use Rattle.patch_core.specs.Frame.{is_base}
 use Rattle.remarks.specs.Remarks.{seeming_line, shown_name}
-use Rattle.show.specs.Readers.{patch_ordinals}
-use Rattle.show.specs.Tables.{Tables}
-use Rattle.show.specs.declared.show.Counts.{Counts}
+use Rattle.show_core.specs.Readers.{patch_ordinals}
+use Rattle.show_core.specs.Tables.{Tables}
+use Rattle.show_core.specs.declared.show.Counts.{Counts}
 use Rattle.show_line.specs.Said.{desk_limits}
 use Rattle.show_reader.specs.ItsShow.{OfItsShow}
 use Rattle.show_reader.specs.Reading.{lines_read, lines_skipped, text_fault}

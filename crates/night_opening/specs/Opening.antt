@@ -1,7 +1,7 @@
 -- How a live night opens by its words and its record.
 use Rattle.std.specs.Prelude.{◌≡◌, ◌⊎◌, ◌<◌, ◌+◌, ℕ, Bool, true, false, List, [], ◌∷◌, codes}
 use Rattle.std.specs.Prelude.{length, Option, Some, None, option_map, Result, Ok, Err}
-use Rattle.fade.specs.Level.{Start}
+use Rattle.fade_core.specs.Level.{Start}
 use Rattle.console.specs.Streams.{Production}
 use Rattle.show_reader.specs.Reading.{longest_text}
 use Rattle.show_reader.specs.declared.fault.ShowFault.TheVariants as show_fault

@@ -3,8 +3,8 @@ use Rattle.std.specs.Prelude.{◌≡◌, ℕ, Bool, List, Option, Some, None, op
 use Rattle.console.specs.Streams.{Production}
 use Rattle.live_input.specs.Night.{Happening, now}
 use Rattle.cmd_live.specs.Night.{history_at}
-use Rattle.desk.specs.Played.{moves}
-use Rattle.playback.specs.Played.{current_after}
+use Rattle.desk_core.specs.Played.{moves}
+use Rattle.playback_core.specs.Played.{current_after}
 use Rattle.night_lines.specs.declared.place.Place.{Place}
 use Rattle.night_lines.specs.declared.record.Recording.{Recording}
 use Rattle.night_opening.specs.declared.playbill.LiveWords.{LiveWords}

@@ -22,7 +22,7 @@ use night_lines::{
     StartShow, Transmission, find_network, tell_start,
 };
 use packet_paths::{Path, Source};
-use patch::has_numbers;
+use patch_core::has_numbers;
 use remarks::{NameText, of_name, seeming_line};
 use show_reader::{Loaded, read_show};
 use std::alloc::Global;

@@ -10,7 +10,7 @@ use crate::playbill::{LiveWords, Playbill};
 use crate::run_fault::run_fault;
 use cmd_faults::RunFault;
 use cmd_live::{Night, Silent};
-use fade::Fader;
+use fade_core::Fader;
 use night_record::NightOpening;
 use remarks::{JobFault, Refusal};
 use std::alloc::Global;

@@ -5,7 +5,7 @@ ghost use Rattle.night_opening.specs.Recordings.{IsPlaceIn, IsRecording};
 
 use crate::playbill::LiveWords;
 use cmd_live::Night;
-use fade::Fader;
+use fade_core::Fader;
 use night_lines::{Place, Recording};
 use night_record::TakenUp;
 

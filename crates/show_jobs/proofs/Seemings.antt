@@ -1,7 +1,7 @@
 -- What a file seems to be, by what was read of it.
 use Rattle.std.proofs.Common.{◌≡◌, ℕ, List, Some, None}
 use Rattle.std.specs.FinMap as maps
-use Rattle.show.specs.Tables.{Tables}
+use Rattle.show_core.specs.Tables.{Tables}
 use Rattle.show_line.specs.Said.{desk_limits}
 use Rattle.show_reader.specs.Reading.{text_fault}
 use Rattle.show_reader.specs.Shows.{IsShowOf}

@@ -18,7 +18,7 @@ use Rattle.show_line.proofs.Terms.{statement_in}
 use Rattle.show_line.proofs.Terms.{IsRecordInRange, IsPairInRange, IsTripleInRange, IsRateInRange}
 use Rattle.show_line.proofs.Terms.{IsTimeInRange, IsSound}
 use Rattle.show_line.specs.declared.fault.LineFault.TheVariants.{Ident as BadIdent}
-use Rattle.show.specs.declared.cue.CueTime.TheVariants as cue_time
+use Rattle.show_core.specs.declared.cue.CueTime.TheVariants as cue_time
 use Rattle.show_line.specs.declared.keyword.Keyword.TheVariants as keywords
 use Rattle.show_line.specs.declared.statement.Record.TheVariants as record_of
 use Rattle.show_line.proofs.Lowest.{lower_both}

@@ -1,7 +1,7 @@
 -- What single lines say, evaluated.
 use Rattle.std.specs.Prelude.{◌≡◌, ℕ, List, [], ◌∷◌, codes, Option, Some, None, option_map, refl}
 use Rattle.ascii_text.specs.Text.{words_of}
-use Rattle.show.specs.declared.cue.CueTime.TheVariants.{Up, Down, Follow}
+use Rattle.show_core.specs.declared.cue.CueTime.TheVariants.{Up, Down, Follow}
 use Rattle.show_line.specs.declared.fault.LineFault.TheVariants.{MissingNumber, BadNumber}
 use Rattle.show_line.specs.declared.fault.LineFault.TheVariants.{BadLevel}
 use Rattle.show_line.specs.declared.fault.LineFault.TheVariants.{BadTime, HalfPair}

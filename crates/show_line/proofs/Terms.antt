@@ -15,7 +15,7 @@ pub use Rattle.std.proofs.lemmas.Str.Parse.{IsNumeralModel, numerals_by_value, d
 pub use Rattle.ascii_text.specs.Forms.{is_run, digits_of, whole_of, is_point, is_colon, units_of}
 pub use Rattle.ascii_text.specs.Forms.{fraction_of, sum_of, scaled_of, cue_number_of, seconds_of}
 pub use Rattle.ascii_text.specs.Forms.{time_of, number_of, same_word, level_of}
-pub use Rattle.show.specs.Numbers.{is_cue_number, is_time, is_within}
+pub use Rattle.show_core.specs.Numbers.{is_cue_number, is_time, is_within}
 pub use Rattle.std.specs.Result.{result_err}
 pub use Rattle.std.proofs.lemmas.Option.{none-some}
 pub use Rattle.show_line.specs.declared.fault.LineFault.{LineFault}
@@ -44,8 +44,8 @@ pub use Rattle.show_line.specs.Said.{cleared_names, follow_fault, follow_in, cle
 pub use Rattle.show_line.specs.Said.{statement_in, levels_said, owned_said, time_said, read_as}
 pub use Rattle.show_line.specs.Sound.{IsRecordInRange, IsPairInRange, IsTripleInRange, IsSound}
 pub use Rattle.show_line.specs.Sound.{IsFaultless}
-pub use Rattle.show.specs.Cues.{IsRateInRange, IsTimeInRange}
-pub use Rattle.show.specs.declared.cue.CueTime.{CueTime}
+pub use Rattle.show_core.specs.Cues.{IsRateInRange, IsTimeInRange}
+pub use Rattle.show_core.specs.declared.cue.CueTime.{CueTime}
 pub use Rattle.std.proofs.lemmas.Grind.{common_steps}
 pub use Rattle.ascii_text.specs.Text.{words_of}
 pub use Rattle.std.proofs.Math.Seq.{drop-length, take-append_seam}

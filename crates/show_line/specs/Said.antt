@@ -4,9 +4,9 @@ use Rattle.std.specs.Prelude.{Some, None, Result, Ok, Err}
 use Rattle.std.specs.Prelude.{unwrap_or}
 use Rattle.std.specs.Option.{option_map_or}
 use Rattle.ascii_text.specs.Forms.{same_word, number_of, time_of, cue_number_of}
-use Rattle.show.specs.declared.cue.CueTime.{CueTime}
-use Rattle.show.specs.declared.cue.CueTime.TheVariants as cue_time
-use Rattle.show.specs.declared.rate.Rate.{Rate}
+use Rattle.show_core.specs.declared.cue.CueTime.{CueTime}
+use Rattle.show_core.specs.declared.cue.CueTime.TheVariants as cue_time
+use Rattle.show_core.specs.declared.rate.Rate.{Rate}
 use Rattle.show_line.specs.declared.fault.LineFault.{LineFault}
 use Rattle.show_line.specs.declared.fault.LineFault.TheVariants.{MissingNumber}
 use Rattle.show_line.specs.declared.fault.LineFault.TheVariants.{Ident as BadIdent}

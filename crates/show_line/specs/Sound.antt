@@ -1,8 +1,8 @@
 -- What holds of every statement that a line says: its numbers are in their ranges.
 use Rattle.std.specs.Prelude.{ℕ, IsTrue, All}
-use Rattle.show.specs.Numbers.{is_cue_number, is_group, is_sub, is_channel}
-use Rattle.show.specs.Cues.{IsTimeInRange}
-use Rattle.show.specs.Builders.{can_patch}
+use Rattle.show_core.specs.Numbers.{is_cue_number, is_group, is_sub, is_channel}
+use Rattle.show_core.specs.Cues.{IsTimeInRange}
+use Rattle.show_core.specs.Builders.{can_patch}
 use Rattle.show_line.specs.declared.statement.Record.{Record}
 use Rattle.show_line.specs.declared.statement.Record.TheVariants as record_of
 use Rattle.show_line.specs.declared.statement.Statement.{Statement}

@@ -17,7 +17,7 @@ use crate::pairs::Pairs;
 use crate::statement::{Cleared, Record, Statement, Table};
 use crate::triples::Triples;
 use ascii_text::{Words, cue_number, number, same_word, time};
-use show::{CueTime, GROUPS, Rate, SUBMASTERS};
+use show_core::{CueTime, GROUPS, Rate, SUBMASTERS};
 
 /// A line that has words: what its first word makes of it, and what it says.
 #[derive(Debug, Drop)]

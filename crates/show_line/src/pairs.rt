@@ -8,7 +8,7 @@ ghost use Rattle.show_line.specs.Pairs.{desk_limits, pair_fault, pairs_in};
 use crate::fault::{LineFault, level_fault, lower, number_fault, number_in};
 use arrayvec::ArrayVec;
 use ascii_text::{Words, level, number};
-use show::CHANNELS;
+use show_core::CHANNELS;
 use std::alloc::AllocError;
 use std::marker::Model;
 

@@ -1,7 +1,7 @@
 use crate::fault::LineFault;
 use crate::pairs::Pairs;
 use crate::triples::Triples;
-use show::CueTime;
+use show_core::CueTime;
 
 /// What a CUE, GROUP or SUB line opens: a cue by its number in thousandths, a group or a submaster.
 #[derive(Clone, Copy, Debug, PartialEq, Eq)]

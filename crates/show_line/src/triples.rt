@@ -8,7 +8,7 @@ ghost use Rattle.show_line.specs.Pairs.{desk_limits, triple_fault, triples_in};
 use crate::fault::{LineFault, level_fault, lower, number_fault, number_in};
 use arrayvec::ArrayVec;
 use ascii_text::{Words, level, number};
-use show::{CHANNELS, DIMMERS};
+use show_core::{CHANNELS, DIMMERS};
 use std::marker::Model;
 
 // How many triples of a line are kept from the first reading of its words. Most lines have fewer.

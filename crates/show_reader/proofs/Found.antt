@@ -9,8 +9,8 @@ use Rattle.std.specs.FinMap as maps
 use Rattle.std.proofs.lemmas.Bool.Decides.{nat_tests}
 use Rattle.show_reader.specs.Terms.{PatchMap, Tables, Record, Cue, Statement, Levels, SetsTime}
 use Rattle.show_reader.specs.Terms.{Patches, Clears, All, Triple}
-use Rattle.show.specs.Builders.{patched_with, all_patched}
-use Rattle.show.proofs.Cues.{time_set, no_time, levels_stay}
+use Rattle.show_core.specs.Builders.{patched_with, all_patched}
+use Rattle.show_core.proofs.Cues.{time_set, no_time, levels_stay}
 use Rattle.show_reader.specs.Keys.{Key, There, Level, Time, Dimmer, has_record, answer_for}
 use Rattle.show_reader.specs.Meaning.{after, pair_says, triple_says, says, cue_count}
 use Rattle.show_reader.specs.Meaning.{is_record_there}

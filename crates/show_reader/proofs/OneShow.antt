@@ -4,7 +4,7 @@ use Rattle.std.proofs.Common.{option_and_then}
 use Rattle.std.specs.Ordering.{nat_cmp}
 use Rattle.std.specs.FinMap as maps
 use Rattle.std.proofs.lemmas.Cmp.{nat_cmp_total}
-use Rattle.show.proofs.Cues.{same_cue}
+use Rattle.show_core.proofs.Cues.{same_cue}
 use Rattle.show_reader.specs.Terms.{CueData, LevelMap, Tables, TimeName, time_in, Record, Cue}
 use Rattle.show_reader.specs.Terms.{Group, Sub, Statement}
 use Rattle.show_line.specs.Said.{desk_limits}

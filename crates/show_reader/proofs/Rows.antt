@@ -12,7 +12,7 @@ use Rattle.show_reader.specs.declared.fault.ShowFault.TheVariants.{BadLevel, Bad
 use Rattle.show_reader.specs.declared.fault.ShowFault.TheVariants.{HalfTriple, Limit}
 use Rattle.show_reader.specs.Text.{statements_of}
 use Rattle.show_reader.specs.Keys.{Level, Time, Dimmer}
-use Rattle.show.specs.Cues.{UpTime, DownTime, FollowTime}
+use Rattle.show_core.specs.Cues.{UpTime, DownTime, FollowTime}
 use Rattle.show_reader.specs.Meaning.{is_record_there, meaning, cue_count}
 use Rattle.show_reader.specs.Reading.{fault_below, text_fault, lines_read, lines_skipped, grows}
 use Rattle.show_reader.specs.Reading.{faultless_front}

@@ -5,8 +5,8 @@ use Rattle.std.specs.FinMap as maps
 use Rattle.show_reader.specs.Terms.{PatchMap, Tables, LineFault, Record, Cue, Group, Sub, Cues}
 use Rattle.show_reader.specs.Terms.{Groups, Subs, Patch, Cleared, All, Only, Statement, Opens}
 use Rattle.show_reader.specs.Terms.{Levels, SetsTime, Patches, Clears, Faulty, Triple}
-use Rattle.show.specs.Builders.{with_cue, opened_in, with_levels, with_all_listed, with_time}
-use Rattle.show.specs.Builders.{patched_with, can_open}
+use Rattle.show_core.specs.Builders.{with_cue, opened_in, with_levels, with_all_listed, with_time}
+use Rattle.show_core.specs.Builders.{patched_with, can_open}
 use Rattle.show_line.specs.declared.fault.LineFault.TheVariants.{Limit}
 use Rattle.show_reader.specs.Keys.{has_record}
 

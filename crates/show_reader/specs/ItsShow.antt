@@ -1,6 +1,6 @@
 -- The show that a text means to a desk.
 use Rattle.std.specs.Prelude.{ℕ, List}
-use Rattle.show.specs.Tables.{Tables}
+use Rattle.show_core.specs.Tables.{Tables}
 use Rattle.show_line.specs.Said.{desk_limits}
 use Rattle.show_reader.specs.Text.{statements_of}
 use Rattle.show_reader.specs.Shows.{IsShowOf}

@@ -4,7 +4,7 @@
 use Rattle.std.specs.Prelude.{◌≡◌, ℕ, false, IsTrue, IfSome, List, [], Option, Some, None, ◌⊎◌, ◌∷◌}
 use Rattle.std.specs.Prelude.{length, count_by, All}
 use Rattle.show_reader.specs.Terms.{Tables, Record, Statement}
-use Rattle.show.specs.Builders.{all_patched}
+use Rattle.show_core.specs.Builders.{all_patched}
 use Rattle.show_reader.specs.declared.apply.Refusal.{Refusal}
 use Rattle.show_reader.specs.declared.apply.Refusal.TheVariants as refusal
 use Rattle.show_reader.specs.declared.draft.Draft.{Draft}

@@ -1,7 +1,7 @@
 -- The words of the crates below that this crate's definitions and proofs speak in.
-pub use Rattle.show.specs.declared.cue.CueData.{CueData}
-pub use Rattle.show.specs.Cues.{TimeName, TimeOf, time_named, time_in}
-pub use Rattle.show.specs.Tables.{LevelMap, CueMap, MasterMap, PatchMap, Tables}
+pub use Rattle.show_core.specs.declared.cue.CueData.{CueData}
+pub use Rattle.show_core.specs.Cues.{TimeName, TimeOf, time_named, time_in}
+pub use Rattle.show_core.specs.Tables.{LevelMap, CueMap, MasterMap, PatchMap, Tables}
 pub use Rattle.show_line.specs.declared.fault.LineFault.{LineFault}
 pub use Rattle.show_line.specs.declared.statement.Record.{Record}
 pub use Rattle.show_line.specs.declared.statement.Record.TheVariants.{Cue, Group, Sub}

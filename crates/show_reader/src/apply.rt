@@ -1,5 +1,5 @@
 ghost use Rattle.std.specs.Prelude.{◌≡◌, false, OnOk, IfErr, None};
-ghost use Rattle.show.specs.declared.fault.BuildFault.TheVariants as build_fault;
+ghost use Rattle.show_core.specs.declared.fault.BuildFault.TheVariants as build_fault;
 ghost use Rattle.show_line.specs.declared.fault.LineFault.TheVariants as line_fault;
 ghost use Rattle.show_line.specs.Sound.{IsSound};
 ghost use Rattle.show_reader.specs.declared.apply.Refusal.TheVariants as refusal;
@@ -9,7 +9,7 @@ ghost use Rattle.show_reader.specs.Applied.{HasOwner};
 ghost use Rattle.show_reader.specs.Reads.{show_of_draft, IsDraft, IsSettled, ExplainsRefusal};
 
 use crate::draft::Draft;
-use show::{BuildFault, Show};
+use show_core::{BuildFault, Show};
 use show_line::{Cleared, LineFault, Record, Statement, Table};
 use std::alloc::AllocError;
 

@@ -8,7 +8,7 @@ ghost use Rattle.show_reader.specs.Reading.{grows};
 ghost use Rattle.show_reader.specs.Applied.{show_after, with_pairs};
 ghost use Rattle.show_reader.specs.Reads.{show_of_draft, IsDraft, IsSettled};
 
-use show::{BuildFault, Show};
+use show_core::{BuildFault, Show};
 use show_line::{Pairs, Record, Triple, Triples};
 use std::alloc::{AllocError, Global};
 

@@ -15,7 +15,7 @@ use crate::apply::{Refusal, apply};
 use crate::draft::Draft;
 use crate::fault::{LONGEST_TEXT, ShowFault};
 use ascii_text::{Line, Lines};
-use show::Show;
+use show_core::Show;
 use show_line::{Keyword, LineFault, Record, Statement, read_line};
 use std::alloc::Global;
 

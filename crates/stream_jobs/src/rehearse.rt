@@ -7,7 +7,7 @@ ghost use Rattle.stream_jobs.specs.Rehearsals.{HandsOnAll};
 
 use cmd_faults::RunFault;
 use cmd_rehearse::rehearse_text;
-use fade::Fader;
+use fade_core::Fader;
 use job_devices::JobOutput;
 use remarks::Failure;
 use std::alloc::Global;

@@ -1,7 +1,7 @@
 -- Nights that were opened.
 use Rattle.std.proofs.Common.{ℕ, List, [], Result, Ok, Err}
 use Rattle.std.specs.Prelude.{IfOk}
-use Rattle.fade.specs.Level.{Start}
+use Rattle.fade_core.specs.Level.{Start}
 use Rattle.sacn_source.specs.Identity.{Identity}
 use Rattle.console.specs.Streams.{Production}
 use Rattle.cmd_live.specs.declared.night.Night.{Night}

@@ -3,9 +3,9 @@ ghost use Rattle.std.specs.Prelude.{◌<◌};
 use crate::shows::{CUES, FADE, fading_show};
 use crate::timed::Timed;
 use anyhow::Result;
-use desk::{Command, Desk, Refused};
-use fade::StepFader;
-use show::Show;
+use desk_core::{Command, Desk, Refused};
+use fade_core::StepFader;
+use show_core::Show;
 use std::time::{Clock, Instant};
 
 // Milliseconds between two ticks.

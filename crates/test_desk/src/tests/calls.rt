@@ -1,6 +1,6 @@
 use ascii_text::Words;
 use console::{Call, Reading, command_in, done_line, read_call, reason_line, refused_line};
-use desk::{Command, Refused};
+use desk_core::{Command, Refused};
 
 #[test]
 fn calls_of_lines(rt: HostRuntime) {

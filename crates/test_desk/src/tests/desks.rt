@@ -1,8 +1,8 @@
 use super::shows::{Part, TWO_CUES, show_of, show_with};
-use desk::{Command, Desk, Refused, Ticked};
-use fade::{Fader, PlainFader, StepFader};
-use patch::RigFault;
-use show::{BuildFault, Show};
+use desk_core::{Command, Desk, Refused, Ticked};
+use fade_core::{Fader, PlainFader, StepFader};
+use patch_core::RigFault;
+use show_core::{BuildFault, Show};
 use std::alloc::Global;
 use std::process::Abort;
 use std::test::Fail;

@@ -1,6 +1,6 @@
 ghost use Rattle.std.specs.Prelude.{◌≡◌, ◌≤◌};
 
-use fade::{Fader, PlainFader, Rate, StepFader};
+use fade_core::{Fader, PlainFader, Rate, StepFader};
 use std::alloc::{AllocError, Global};
 use std::process::Abort;
 use std::test::Fail;

@@ -1,5 +1,5 @@
 use console::Call;
-use desk::Command;
+use desk_core::Command;
 use live_input::{Given, LiveInput, Reason};
 use std::process::Abort;
 

@@ -1,6 +1,6 @@
 use super::shows::{Part, show_of};
-use masters::{Masters, NoMaster};
-use show::Show;
+use master_core::{Masters, NoMaster};
+use show_core::Show;
 use std::alloc::Global;
 use std::process::Abort;
 use std::test::Fail;

@@ -1,7 +1,7 @@
 use super::shows::{Part, add, show_of};
-use desk::{Command, Desk, ENDING_TICKS, Refused};
-use fade::{Fader, PlainFader, StepFader};
-use show::{BuildFault, Show};
+use desk_core::{Command, Desk, ENDING_TICKS, Refused};
+use fade_core::{Fader, PlainFader, StepFader};
+use show_core::{BuildFault, Show};
 use std::alloc::Global;
 use std::io::Print;
 use std::process::Abort;

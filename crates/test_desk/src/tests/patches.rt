@@ -1,9 +1,9 @@
 ghost use Rattle.std.specs.Prelude.{◌<◌, IsTrue, All};
-ghost use Rattle.show.specs.Numbers.{is_channel, AreLevels};
+ghost use Rattle.show_core.specs.Numbers.{is_channel, AreLevels};
 
 use super::shows::{Part, show_of};
-use patch::{Rig, RigFault, has_numbers, max_into};
-use show::{BuildFault, Show};
+use patch_core::{Rig, RigFault, has_numbers, max_into};
+use show_core::{BuildFault, Show};
 use std::alloc::Global;
 use std::process::Abort;
 use std::test::Fail;

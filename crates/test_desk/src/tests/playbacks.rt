@@ -1,9 +1,9 @@
 ghost use Rattle.std.specs.Prelude.{◌≡◌, ◌<◌, ◌≤◌};
 
 use super::shows::{Part, TWO_CUES, show_of, show_with};
-use fade::{Fader, PlainFader, StepFader};
-use playback::{NoMove, Playback};
-use show::Show;
+use fade_core::{Fader, PlainFader, StepFader};
+use playback_core::{NoMove, Playback};
+use show_core::Show;
 use std::alloc::{AllocError, Global};
 use std::process::Abort;
 use std::test::Fail;

@@ -1,9 +1,9 @@
 use super::are_printed;
 use cmd_rehearse::{Script, ScriptFault, read_script};
-use rehearsal::{Event, What};
 use std::alloc::Global;
 use std::process::Abort;
 use std::test::Fail;
+use wire_world::{Event, What};
 
 // What is read of a text. If an allocation failed, the answer is Memory, and the next reading
 // gives what the text says. No text of a test is longer than a script may be.

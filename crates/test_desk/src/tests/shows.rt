@@ -1,4 +1,4 @@
-use show::{BuildFault, CueTime, Rate, Show};
+use show_core::{BuildFault, CueTime, Rate, Show};
 use std::alloc::Global;
 
 // A part of a show.

@@ -1,21 +1,21 @@
 ghost use Rattle.std.specs.Prelude.{◌≡◌};
-ghost use Rattle.rehearsal.specs.Refusing.{are_within as are_within_size};
-ghost use Rattle.rehearsal.specs.Refusing.{stray_fits as is_within_size};
+ghost use Rattle.wire_world.specs.Refusing.{are_within as are_within_size};
+ghost use Rattle.wire_world.specs.Refusing.{stray_fits as is_within_size};
 
 use super::are_printed;
 use super::shows::{Part, TWO_CUES, show_with};
-use desk::{Command, Refused, Ticked};
-use fade::PlainFader;
-use rehearsal::{
-    Event, Fault, Offers, Rehearsal, Reply, Report, Setup, Skip, What, laws, rehearse,
-};
+use desk_core::{Command, Refused, Ticked};
+use fade_core::PlainFader;
 use sacn_packet::{SourceName, Unreadable};
 use sacn_receiver::Ignored;
 use sacn_source::{Identity, Offered};
-use show::{BuildFault, Show};
+use show_core::{BuildFault, Show};
 use std::alloc::{AllocError, Global};
 use std::process::Abort;
 use std::test::Fail;
+use wire_world::{
+    Event, Fault, Offers, Rehearsal, Reply, Report, Setup, Skip, What, laws, rehearse,
+};
 
 // Two cues; submaster 1 has channel 1 at half, and dimmers 1 and 2 are patched to channels 1 and 2
 // at full.

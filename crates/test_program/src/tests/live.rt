@@ -12,7 +12,7 @@ use booth::{BoothFaults, Coming, MemoryBooth};
 use cmd_faults::RunFault;
 use cmd_live::Night;
 use devices::memory::{Faults, MemoryLink};
-use fade::{Fader, PlainFader};
+use fade_core::{Fader, PlainFader};
 use sacn_packet::SourceName;
 use sacn_source::Identity;
 use std::alloc::Global;

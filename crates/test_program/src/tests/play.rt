@@ -4,7 +4,7 @@ mod rows;
 use cmd_faults::RunFault;
 use cmd_play::{Setup, play};
 use devices::memory::{MemoryFeed, MemoryLink, MemoryOutput};
-use fade::PlainFader;
+use fade_core::PlainFader;
 use sacn_packet::SourceName;
 use sacn_source::Identity;
 use std::alloc::Global;

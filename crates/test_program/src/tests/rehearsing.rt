@@ -4,7 +4,7 @@ mod rows;
 use cmd_faults::RunFault;
 use cmd_rehearse::rehearse_text;
 use devices::memory::MemoryOutput;
-use fade::PlainFader;
+use fade_core::PlainFader;
 use std::alloc::Global;
 
 // Two cues, a submaster at half, and dimmers 1 and 2.

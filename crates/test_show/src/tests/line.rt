@@ -1,4 +1,4 @@
-use show::{CueTime, Rate};
+use show_core::{CueTime, Rate};
 use show_line::{Keyword, LineFault, Reading, Record, Statement, Triple, read_line};
 use std::alloc::{AllocError, Global};
 use std::test::Fail;

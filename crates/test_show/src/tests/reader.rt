@@ -1,4 +1,4 @@
-use show::{Counts, Show};
+use show_core::{Counts, Show};
 use show_reader::{Loaded, ShowFault, limits_law, one_show_law, read_show};
 use std::alloc::Global;
 use std::test::Fail;

@@ -3,7 +3,7 @@ mod many;
 use many::{
     falling_dimmers, falling_levels, list_in_cue, list_in_group, list_in_sub, rising_levels,
 };
-use show::{BuildFault, Counts, Show};
+use show_core::{BuildFault, Counts, Show};
 use std::alloc::{AllocError, Global};
 use std::process::Abort;
 use std::test::Fail;

@@ -1,6 +1,6 @@
 use Rattle.std.proofs.Common.{◌∙◌, sym}
 use Rattle.std.specs.Prelude.{is_some}
-use Rattle.desk.specs.Played.{ticks_since_end, moves, own_time}
+use Rattle.desk_core.specs.Played.{ticks_since_end, moves, own_time}
 use Rattle.console.specs.Spelling.{act_of}
 use Rattle.cmd_live.specs.Shown.{cue_lines}
 use Rattle.cmd_live.specs.Stands.{ShowsText}

@@ -1,5 +1,5 @@
 use Rattle.std.proofs.Common.{◌∙◌, [], ◌∷◌, ◌++◌, None, refl, sym}
-use Rattle.playback.specs.Played.{Move}
+use Rattle.playback_core.specs.Played.{Move}
 use Rattle.cmd_live.proofs.Moves.{one_line}
 use Rattle.cmd_live.proofs.Texts.{shown_by, shows_more, shows_none}
 use Rattle.cmd_live.proofs.carry.show_follow_ons.Goals as goal

@@ -1,6 +1,6 @@
 use Rattle.std.proofs.Common.{◌≡◌, ◌++◌, Bool, List}
-use Rattle.playback.specs.Placed.{IsPlaceAfter, cues_above}
-use Rattle.playback.specs.Played.{Move, moves_by}
+use Rattle.playback_core.specs.Placed.{IsPlaceAfter, cues_above}
+use Rattle.playback_core.specs.Played.{Move, moves_by}
 use Rattle.cmd_live.specs.Shown.{cue_lines}
 use Rattle.cmd_live.specs.Stands.{ShowsText}
 use Rattle.cmd_live.proofs.carry.show_follow_ons.Given as goal

@@ -1,5 +1,5 @@
 use Rattle.std.proofs.Common.{◌∙◌, ◌∷◌}
-use Rattle.playback.specs.Played.{Move}
+use Rattle.playback_core.specs.Played.{Move}
 use Rattle.cmd_live.proofs.Moves.{made_is, one_line}
 use Rattle.cmd_live.proofs.Texts.{shown_by, shows_more}
 use Rattle.cmd_live.proofs.carry.show_moves.Goals as goal

@@ -1,8 +1,8 @@
 use Rattle.std.proofs.Common.{◌≡◌, ◌∙◌, ap}
-use Rattle.show.specs.Tables.{Tables}
-use Rattle.show.specs.Readers.{cue_above}
-use Rattle.playback.specs.Played.{go_target}
-use Rattle.desk.specs.Played.{settings}
+use Rattle.show_core.specs.Tables.{Tables}
+use Rattle.show_core.specs.Readers.{cue_above}
+use Rattle.playback_core.specs.Played.{go_target}
+use Rattle.desk_core.specs.Played.{settings}
 use Rattle.console.specs.WhereLine.{where_line}
 use Rattle.cmd_live.specs.Shown.{shown_place}
 use Rattle.cmd_live.proofs.Texts.{shown_by}

@@ -1,12 +1,12 @@
 use Rattle.std.proofs.Common.{◌≡◌, ◌∷◌, [], Result, Ok, Err, IsErrAnd, IfErr}
 use Rattle.std.proofs.Common.{refl, ap, sym, subst, ◌∙◌}
 use Rattle.cmd_rehearse.specs.Script.{Parts, parts}
-use Rattle.rehearsal.specs.Refusing.{setup_fault}
-use Rattle.rehearsal.specs.Promised.{IsPromised}
-use Rattle.rehearsal.specs.Reported.{IsReportOf, RehearsalReport}
+use Rattle.wire_world.specs.Refusing.{setup_fault}
+use Rattle.wire_world.specs.Promised.{IsPromised}
+use Rattle.wire_world.specs.Reported.{IsReportOf, RehearsalReport}
 use Rattle.cmd_rehearse.specs.Printed.{world}
 use Rattle.cmd_faults.specs.declared.fault.RunFault.{RunFault}
-use Rattle.rehearsal.proofs.Refusals.{no_fault}
+use Rattle.wire_world.proofs.Refusals.{no_fault}
 use Rattle.cmd_rehearse.proofs.Beginning.{few_receivers, is_read, lines_of, refused}
 use Rattle.cmd_rehearse.proofs.Beginning.{set_up, unread}
 use Rattle.cmd_rehearse.proofs.night.rehearse_script.Goals as goal

@@ -1,7 +1,7 @@
 use Rattle.std.proofs.Common.{◌≡◌, ◌∙◌, sym, ap, is_some, rules}
 use Rattle.std.specs.Prelude.{IsTrue, IsFalse}
-use Rattle.patch.specs.Frame.{is_base}
-use Rattle.show.specs.Tables.{Tables}
+use Rattle.patch_core.specs.Frame.{is_base}
+use Rattle.show_core.specs.Tables.{Tables}
 use Rattle.show_reader.proofs.OneShow.{of_its_show}
 use Rattle.cmd_show.specs.Slots.{slots_text, SlotsFails}
 use Rattle.cmd_show.proofs.Shows.{cue_is_there, of_cue, output_failed}

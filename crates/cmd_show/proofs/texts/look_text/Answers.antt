@@ -1,6 +1,6 @@
 use Rattle.std.proofs.Common.{◌∙◌, ◌<◌}
 use Rattle.std.proofs.lemmas.List.Elements.{All-same}
-use Rattle.show.specs.Readers.{patch_ordinals}
+use Rattle.show_core.specs.Readers.{patch_ordinals}
 use Rattle.cmd_show.proofs.Packets.{universes_in_range}
 use Rattle.cmd_show.proofs.texts.look_text.Goals as goal
 

@@ -1,5 +1,5 @@
 use Rattle.std.proofs.Common.{◌∙◌, add-one, sym}
-use Rattle.desk.specs.Played.{ticks_since_end}
+use Rattle.desk_core.specs.Played.{ticks_since_end}
 use Rattle.sacn_source.proofs.SenderLemmas.{earliest_is, ended_is}
 use Rattle.console.proofs.Ticks.{ending_by, fewer_than_three, live_by, offered_before}
 use Rattle.console.proofs.tick.offer.Goals as goal

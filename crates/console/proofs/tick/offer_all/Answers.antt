@@ -6,7 +6,7 @@ use Rattle.std.proofs.lemmas.List.Elements.{All-from_get_or}
 use Rattle.std.proofs.lemmas.List.Kept.{AllPairs-from_increasing}
 use borrow.Author.Count.{below_more}
 use Rattle.console.specs.Offering.{none}
-use Rattle.desk.specs.Played.{tick_at}
+use Rattle.desk_core.specs.Played.{tick_at}
 use Rattle.console.specs.Stands.{HasStream}
 use Rattle.console.specs.Streams.{due_at}
 use Rattle.console.proofs.Ticks.{numbers_are, offers_more}

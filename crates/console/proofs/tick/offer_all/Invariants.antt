@@ -1,6 +1,6 @@
 use Rattle.std.proofs.Common.{◌≡◌, ◌≤◌, ◌<◌, ℕ, List, ◌∷◌, length, take, get_or}
 use Rattle.std.specs.Prelude.{map}
-use Rattle.desk.specs.Played.{Act, tick_at}
+use Rattle.desk_core.specs.Played.{Act, tick_at}
 use Rattle.sacn_source.specs.Stands as streams
 use Rattle.console.specs.Offering.{OffersDues}
 use Rattle.console.specs.Stands.{HasStream, HasStreams, IsMidTick}

@@ -1,5 +1,5 @@
 use Rattle.std.proofs.Common.{◌++◌, ◌∙◌, ap, codes, arith}
-use Rattle.masters.specs.Settings.{sub_after}
+use Rattle.master_core.specs.Settings.{sub_after}
 use Rattle.console.specs.WhereLine.{master_text}
 use Rattle.console.proofs.Numbers.{all_subs, number_more}
 use Rattle.console.proofs.whereabouts.push_subs.Goals as goal

@@ -1,6 +1,6 @@
 use Rattle.std.proofs.Common.{◌≡◌, ◌≤◌, ◌+◌, ◌*◌, ◌-◌, ◌++◌, List, length, codes, flat_map}
 use Rattle.std.specs.List.{range_with_len}
-use Rattle.masters.specs.Settings.{Setting, StandsFor, sub_after}
+use Rattle.master_core.specs.Settings.{Setting, StandsFor, sub_after}
 use Rattle.console.specs.WhereLine.{master_text}
 use Rattle.console.proofs.whereabouts.push_subs.Given as goal
 

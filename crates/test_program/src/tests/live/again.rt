@@ -7,7 +7,7 @@ use super::{SMALL, identity, plain};
 use cmd_faults::RunFault;
 use cmd_live::{Night, Silent};
 use devices::memory::{MemoryLink, MemorySend};
-use fade::{Fader, PlainFader};
+use fade_core::{Fader, PlainFader};
 use sacn_source::Identity;
 use std::alloc::Global;
 use std::process::Abort;

@@ -4,7 +4,7 @@ use super::{SMALL, identity, plain};
 use arrayvec::ArrayVec;
 use cmd_live::{Led, MainConsole, Night, Pause};
 use devices::memory::MemoryLink;
-use fade::{Fader, PlainFader};
+use fade_core::{Fader, PlainFader};
 use sacn_source::Identity;
 use std::alloc::Global;
 use std::process::Abort;

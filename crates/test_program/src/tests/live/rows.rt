@@ -3,7 +3,7 @@ use super::{Run, SMALL, Setting, identity, plain};
 use cmd_faults::RunFault;
 use cmd_play::{Setup, play};
 use devices::memory::{MemoryFeed, MemoryLink, MemoryOutput};
-use fade::PlainFader;
+use fade_core::PlainFader;
 use std::alloc::Global;
 use std::process::Abort;
 

@@ -1,4 +1,4 @@
-use show::{BuildFault, Show};
+use show_core::{BuildFault, Show};
 use std::process::Abort;
 use std::test::Fail;
 

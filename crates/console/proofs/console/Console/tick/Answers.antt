@@ -1,6 +1,6 @@
 use Rattle.std.proofs.Common.{◌∙◌, sym}
 use Rattle.std.proofs.lemmas.Result.{err_from_is_err_and}
-use Rattle.desk.specs.Played.{refusal, tick_at}
+use Rattle.desk_core.specs.Played.{refusal, tick_at}
 use Rattle.console.proofs.Ticks.{refused_by, tick_stands}
 use Rattle.console.proofs.console.Console.tick.Goals as goal
 

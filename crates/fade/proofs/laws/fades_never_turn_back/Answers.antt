@@ -1,5 +1,0 @@
-use Rattle.fade.proofs.Fade.{level_after_towards}
-use Rattle.fade.proofs.laws.fades_never_turn_back.Goals as goal
-
-pub returns : goal.returns
-returns c = level_after_towards

@@ -1,0 +1,6 @@
+use Rattle.fade_core.proofs.Standing.{stands_full}
+use Rattle.fade_core.proofs.course.Course.levels.Goals as goal
+
+pub returns-clause-full : goal.returns-clause-full
+returns-clause-full c =
+    rw c.deref.ensures.value (stands_full _ _ _ _ c.self.invariant.fading c.self.invariant.stands)

@@ -1,7 +1,0 @@
-use Rattle.patch.proofs.Terms.{◌≡◌, ℕ, ◌<◌, get_or, slot_of}
-use Rattle.patch.proofs.draw.fill_dimmed.Given as goal
-
--- the slots so far are those of their channels
-abbrev pub invariant-loop-place : goal.invariant-loop-place
-invariant-loop-place l = (c : ℕ) → c < l.place
-    → get_or l.slots c 0 ≡ slot_of (get_or l.levels c 0) l.grand 255

@@ -1,7 +1,0 @@
-use Rattle.patch.proofs.Terms.{◌≡◌, ℕ, ◌+◌, ◌<◌, get_or, slot_of}
-use Rattle.patch.proofs.draw.fill_scaled.Given as goal
-
--- the slots so far are those of their dimmers
-abbrev pub invariant-loop-place : goal.invariant-loop-place
-invariant-loop-place l = (s : ℕ) → s < l.place
-    → get_or l.out s 0 ≡ slot_of (get_or l.own s 0) l.grand (get_or l.bytes (l.first + s) 0)

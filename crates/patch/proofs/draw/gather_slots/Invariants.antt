@@ -1,7 +1,0 @@
-use Rattle.patch.proofs.Terms.{◌≡◌, ℕ, ◌+◌, ◌*◌, ◌<◌, get_or}
-use Rattle.patch.proofs.draw.gather_slots.Given as goal
-
--- the slots so far are those of their channels
-abbrev pub invariant-loop-group : goal.invariant-loop-group
-invariant-loop-group l = (s : ℕ) → s < 8 * l.group
-    → get_or l.out s 0 ≡ get_or l.slots (get_or l.sources (l.first + s) 0) 0

@@ -1,0 +1,14 @@
+use Rattle.patch_core.proofs.Terms.{rules, of_calls, ltb, arith, nat_tests, always_returns_same}
+use Rattle.patch_core.proofs.Terms.{IsPartitionedBy-ltb}
+use Rattle.patch_core.proofs.index.first_of.Goals as goal
+
+pub returns : goal.returns
+returns c =
+    let parted = IsPartitionedBy-ltb (λ e. e.1.0) c.args.sorted.now c.args.channel c.requires in
+    let point = c.partition_point.ensures.partitioned (λ e. ltb e.1.0 c.args.channel)
+    (always_returns_same _ _ _ (λ a r f k. search (rules, of_calls))) parted in
+    record {
+      in_range = c.partition_point.ensures.bound;
+      below = λ k d low h. grind (arith, nat_tests, point.0 k d low h);
+      from_on = λ k d low h. grind (arith, nat_tests, point.1 k d low h);
+    }

@@ -1,5 +1,0 @@
-use Rattle.playback.proofs.Levels.{playback_level_towards}
-use Rattle.playback.proofs.laws.playbacks_never_turn_back.Goals as goal
-
-pub returns : goal.returns
-returns c = playback_level_towards

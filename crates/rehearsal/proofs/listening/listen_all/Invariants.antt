@@ -1,5 +1,0 @@
-use Rattle.rehearsal.specs.Stands.{AreListening}
-use Rattle.rehearsal.proofs.listening.listen_all.Given as goal
-
-abbrev pub invariant-loop-i : goal.invariant-loop-i
-invariant-loop-i l = AreListening l.receivers.items l.universes l.i

@@ -1,6 +1,0 @@
-use Rattle.std.proofs.Common.{◌≡◌, drop}
-use Rattle.rehearsal.specs.Refusing.{are_universes}
-use Rattle.rehearsal.proofs.setup.has_universes.Given as goal
-
-abbrev pub invariant-loop-i : goal.invariant-loop-i
-invariant-loop-i l = are_universes (drop l.i l.universes) ≡ are_universes l.universes

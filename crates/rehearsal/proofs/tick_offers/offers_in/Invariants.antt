@@ -1,6 +1,0 @@
-use Rattle.std.proofs.Common.{◌≡◌, take}
-use Rattle.rehearsal.proofs.tick_offers.offers_in.Given as goal
-
--- the offers so far
-abbrev pub invariant-loop-universe : goal.invariant-loop-universe
-invariant-loop-universe l = l.offers ≡ take l.universe-index l.pairs

@@ -1,6 +1,0 @@
-use Rattle.show.proofs.Terms.{IsTrue, ℕ, is_channel}
-use Rattle.show.proofs.Ranges.{none_in}
-use Rattle.show.proofs.levels.Levels.new.Goals as goal
-
-pub invariant_of-result : goal.invariant_of-result
-invariant_of-result c = rw c.new.ensures (none_in ℕ (λ k. IsTrue (is_channel k)))

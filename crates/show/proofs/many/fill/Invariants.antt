@@ -1,5 +1,0 @@
-use Rattle.show.proofs.Terms.{take, IsTableOf}
-use Rattle.show.proofs.many.fill.Given as goal
-
-abbrev pub invariant-loop-entry : goal.invariant-loop-entry
-invariant-loop-entry g l = IsTableOf l.table (take l.entry-index l.entries)

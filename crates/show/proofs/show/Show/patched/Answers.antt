@@ -1,8 +1,0 @@
-use Rattle.show.proofs.Terms.{show_view}
-use Rattle.show.proofs.InRange.{found_in_range}
-use Rattle.show.proofs.show.Show.patched.Goals as goal
-
-pub returns-clause-range : goal.returns-clause-range
-returns-clause-range c =
-    rw (c.copied.ensures, c.get.ensures)
-    (found_in_range (show_view c.self.inside) c.self.invariant c.args.dimmer)

@@ -1,7 +1,0 @@
-use Rattle.show.proofs.Tables.{none_seen}
-use Rattle.show.proofs.table.Table.get.Goals as goal
-
-pub returns-in-Err : goal.returns-in-Err
-returns-in-Err g c =
-    none_seen g.met.K.Key.compared _ c.self.view_is c.self.invariant
-    (rw c.deref.ensures.value at c.in-Err.ensures.absent)

@@ -1,5 +1,0 @@
-use Rattle.show.proofs.Terms.{◌≡◌, take}
-use Rattle.show.proofs.table.clone_entries.Given as goal
-
-abbrev pub invariant-loop-entry : goal.invariant-loop-entry
-invariant-loop-entry g l = l.copy.items ≡ take l.entry-index l.entries

@@ -1,0 +1,34 @@
+ghost use Rattle.std.specs.Prelude.{List};
+ghost use Rattle.wire_world.specs.declared.event.Event.{Event as EventData};
+ghost use Rattle.wire_world.specs.declared.event.What.{What as WhatData};
+ghost use Rattle.wire_world.specs.World.{World};
+ghost use Rattle.wire_world.specs.StageStands.{StageStands, LinkTells};
+ghost use Rattle.wire_world.specs.Stands.{ConsolesStand, AllTell};
+ghost use Rattle.wire_world.specs.Wanted.{Holds, IsReleased, Spares};
+
+use crate::What;
+use crate::stage::Stage;
+use fade_core::Fader;
+
+// After a delivery, lets the packets of its universe go that are before packet `low`.
+pub(crate) fn release<F: Fader>(stages: &mut [Stage<F>], what: What, low: u64)
+    ensures tell { AllTell LinkTells stages.old → AllTell LinkTells stages.new }
+    ensures stand { (w : World) (past : List EventData)
+        → ConsolesStand (StageStands F.stands_for) stages.old w past
+        → ConsolesStand (StageStands F.stands_for) stages.new w past }
+    ensures holds { (later : WhatData) → Holds stages.old later → Spares what low later
+        → Holds stages.new later }
+    ensures left { IsReleased stages.new what low }
+{
+    if let What::Deliver {
+        console,
+        universe,
+        ..
+    } = what
+    {
+        let i = usize::from(console);
+        if i < stages.len() {
+            stages[i].release(universe, low);
+        }
+    }
+}
