@@ -9,8 +9,8 @@
 //! let mut link = MemoryLink::new(rt.alloc(), 0, 0);
 //! let mut out = MemoryOutput::new(rt.alloc(), 0, 0);
 //! let show = b"CUE 1\nCHAN 1@FL\nPATCH 1 1<1@FL\nENDDATA\n";
-//! let setup = Setup { show, identity, base: 1 };
-//! let answer = play::<StepFader, _, _, _>(rt.alloc(), setup, &mut feed, &mut link, &mut out);
+//! let (feed, link, out) = (&mut feed, &mut link, &mut out);
+//! let answer = play::<StepFader, _, _, _>(rt.alloc(), show, identity, 1, feed, link, out);
 //! // out.bytes is "0 ok\n0 live 1:s0\n".
 //! ```
 #![tactic(auto)]
@@ -24,4 +24,4 @@ mod run;
 mod stage;
 
 pub use performance::{Answer, Performed, perform};
-pub use run::{Setup, open, play};
+pub use run::{open, play};

@@ -17,17 +17,6 @@ use sacn_source::Identity;
 use show_reader::read_show;
 use std::alloc::Global;
 
-/// The console of a play.
-#[derive(Clone, Copy, Debug)]
-pub struct Setup<'a> {
-    /// The text of its show.
-    pub show: &'a [u8],
-    /// Who sends its streams.
-    pub identity: Identity,
-    /// The number of its universe of ordinal 0: 1 to 63999.
-    pub base: u16,
-}
-
 /// Plays the lines of an input: opens the console, then carries out each line as it comes, and
 /// prints its answer by one write behind its offers.
 ///
@@ -41,18 +30,20 @@ pub struct Setup<'a> {
 /// packets were lost.
 pub fn play<F: Fader, R: Feed, L: Link, W: Output>(
     alloc: Global,
-    setup: Setup<'_>,
+    show: &[u8],
+    identity: Identity,
+    base: u16,
     input: &mut R,
     link: &mut L,
     out: &mut W,
 ) -> Result<(), RunFault>
-    ensures begins { PlayBegins result setup.entry.show.now setup.entry.base }
-    ensures too_long { longest_text < length setup.entry.show.now → result ≡ Err
+    ensures begins { PlayBegins result show.now base }
+    ensures too_long { longest_text < length show.now → result ≡ Err
         (RunFault.Show show_fault.TooLong) }
-    ensures plays { let setup = setup.entry in has_begun result ≡ true
+    ensures plays { has_begun result ≡ true
         → R.tells input.new → L.tells link.new → W.tells out.new
-        → OfItsShow setup.show.now (λ s. Plays
-        (record { show = s; base = setup.base; source = setup.identity }) result
+        → OfItsShow show.now (λ s. Plays
+        (record { show = s; base = base; source = identity }) result
         (R.ended input.new) (R.tape input.old) (R.tape input.new)
         (emission (L.offered link.old) (W.tape out.old))
         (emission (L.offered link.new) (W.tape out.new))) }
@@ -69,11 +60,6 @@ pub fn play<F: Fader, R: Feed, L: Link, W: Output>(
     ensures told_link { L.tells link.new → L.tells link.old }
     ensures told_output { W.tells out.new → W.tells out.old }
 {
-    let Setup {
-        show,
-        identity,
-        base,
-    } = setup;
     let console: Console<F> = open(alloc, show, identity, base)?;
     match play_lines(console, input, link, out) {
         Ok(0) => Ok(()),

@@ -8,7 +8,7 @@ use cmd_faults::RunFault;
 use fade_core::Fader;
 use show_reader::read_show;
 use std::alloc::Global;
-use wire_world::{Rehearsal, Report, rehearse};
+use wire_world::{Report, rehearse};
 
 // What came of a script.
 #[derive(Debug, Drop)]
@@ -33,14 +33,14 @@ pub(crate) fn rehearse_script<F: Fader>(
     let loaded = read_show(alloc, show)?;
     let script = script_in(alloc, script)?;
     let shows = [loaded.show];
-    let rehearsal = Rehearsal {
-        shows: &shows,
-        consoles: script.consoles.as_slice(),
-        receivers: script.receivers.as_slice(),
-        events: script.events.as_slice(),
-        strays: script.strays.as_slice(),
-    };
-    let report = rehearse::<F>(alloc, rehearsal)?;
+    let report = rehearse::<F>(
+        alloc,
+        &shows,
+        script.consoles.as_slice(),
+        script.receivers.as_slice(),
+        script.events.as_slice(),
+        script.strays.as_slice(),
+    )?;
     Ok(Rehearsed {
         numbers: script.lines,
         report,

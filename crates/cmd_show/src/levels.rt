@@ -74,7 +74,7 @@ fn universes_text(
     let mut text = Vec::new(alloc);
     for ordinal in ordinals {
         let universe = u32::from(base) + u32::from(*ordinal);
-        push_universe(&mut text, universe, &show.look_slots(look, *ordinal))?;
+        push_universe(&mut text, universe, &show.cue_slots(look, *ordinal))?;
     }
     Ok(text)
 }

@@ -63,7 +63,7 @@ fn look_lines(
 {
     let mut text = Vec::new(alloc);
     for ordinal in ordinals {
-        let packet = look_packet(cid, *ordinal, &show.look_slots(look, *ordinal));
+        let packet = look_packet(cid, *ordinal, &show.cue_slots(look, *ordinal));
         let digits = hex::encode(alloc, packet)?;
         text.extend_from_slice(digits.as_bytes())?;
         text.push(b'\n')?;

@@ -5,7 +5,7 @@ use crate::jobs::output;
 use crate::reading::suitable_show;
 use crate::standard::HeldStandard;
 use cmd_faults::RunFault;
-use cmd_play::{Setup, play};
+use cmd_play::play;
 use cmd_words::Night;
 use fade_core::StepFader;
 use job_devices::JobOutput;
@@ -29,12 +29,15 @@ pub fn play_lines(rt: &HostRuntime, night: &Night) -> Result<Remark, JobFault>
     let mut input = SystemInput::new(rt.stdin());
     let mut out = output(rt);
     let show = show.as_slice();
-    let setup = Setup {
+    let answer = play::<StepFader, _, _, _>(
+        rt.alloc(),
         show,
         identity,
-        base: night.base,
-    };
-    let answer = play::<StepFader, _, _, _>(rt.alloc(), setup, &mut input, &mut link, &mut out);
+        night.base,
+        &mut input,
+        &mut link,
+        &mut out,
+    );
     night_end(answer, show, &network, out.failure())?;
     Ok(seeming_remark(rt.alloc(), show))
 }

@@ -131,7 +131,7 @@ impl Sender {
 
     /// How many packets were sent on a universe, terminations and lost ones too; 0 where it is none
     /// of the sender's.
-    pub fn packets_sent(&self, universe: u16) -> u64
+    pub fn sent(&self, universe: u16) -> u64
         ensures sent { (who : Who) (offers : List Offer) (n : ℕ) →
             StandsFor who self.now universe offers n → result ≡ length (packets offers n) }
         ensures other { (Contains (lane_universes self.now) universe → ⊥) → result ≡ 0 }

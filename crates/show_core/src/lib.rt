@@ -8,12 +8,10 @@
 //! ```
 //! let mut show = Show::new(rt.alloc());
 //! show.open_cue(1500)?;
+//! show.set_patch(1, 1, 255)?;
 //! if show.cue(1500).is_some() {
 //!     show.cue_level(1500, 1, 128)?;
-//! }
-//! show.set_patch(1, 1, 255)?;
-//! if let Some(cue) = show.cue(1500) {
-//!     // show.look_slots(&cue, 0) has 128 in its first slot: the cue at full.
+//!     // show.look_slots(1500, 0) has 128 in its first slot: the cue at full.
 //! }
 //! ```
 #![tactic(auto)]

@@ -3,11 +3,11 @@ ghost use Rattle.std.specs.Prelude.{OnOk, OnErr, IfErr, IfSome, Some, Err, All, 
 ghost use Rattle.std.specs.List.{list_all};
 ghost use Rattle.std.specs.Option.{OnSome};
 ghost use Rattle.std.specs.FinMap as map;
-ghost use Rattle.show_core.specs.Numbers.{is_channel, is_dimmer, is_sub, is_group};
+ghost use Rattle.show_core.specs.Numbers.{is_channel, is_dimmer, is_sub, is_group, is_time};
 ghost use Rattle.show_core.specs.Builders.{with_cue, can_open, with_level, with_levels, with_time};
 ghost use Rattle.show_core.specs.Builders.{opened_in, with_listed, with_all_listed};
 ghost use Rattle.show_core.specs.Builders.{can_patch, patched_with, all_patched};
-ghost use Rattle.show_core.specs.Cues.{IsTimeInRange};
+ghost use Rattle.show_core.specs.Cues.{IsRateInRange, IsTimeInRange};
 ghost use Rattle.show_core.specs.Readers.{cue_above, cue_below, patch_ordinals};
 ghost use Rattle.show_core.specs.Readers.{look_slot, look_frame, IsInRange};
 ghost use Rattle.show_core.specs.Codes.{tables_code};
@@ -25,6 +25,7 @@ use crate::limits::{
 };
 use crate::master_table::MasterTable;
 use crate::patch_table::PatchTable;
+use crate::rate::Rate;
 use crate::slots::slot;
 use crate::table::CloneIn;
 use arrayvec::ArrayVec;
@@ -297,6 +298,38 @@ impl Show {
         Ok(())
     }
 
+    /// Sets the rate of rising levels of cue `n`: its time and delay are at most 5,999,990
+    /// milliseconds. The one set last counts.
+    pub fn set_up(&mut self, n: u32, rate: Rate)
+        requires there { IsTrue (map.contains_key self.old.cues n) }
+        requires range { IsRateInRange rate }
+        ensures { self.new
+            ≡ record self.old { cues = with_time self.old.cues n (CueTime.Up rate) } }
+    {
+        self.set_time(n, CueTime::Up(rate));
+    }
+
+    /// Sets the rate of falling levels of cue `n`: its time and delay are at most 5,999,990
+    /// milliseconds. The one set last counts.
+    pub fn set_down(&mut self, n: u32, rate: Rate)
+        requires there { IsTrue (map.contains_key self.old.cues n) }
+        requires range { IsRateInRange rate }
+        ensures { self.new
+            ≡ record self.old { cues = with_time self.old.cues n (CueTime.Down rate) } }
+    {
+        self.set_time(n, CueTime::Down(rate));
+    }
+
+    /// Sets the follow-on time of cue `n`, at most 5,999,990 milliseconds. The one set last counts.
+    pub fn set_follow(&mut self, n: u32, time: u32)
+        requires there { IsTrue (map.contains_key self.old.cues n) }
+        requires range { IsTrue (is_time time) }
+        ensures { self.new
+            ≡ record self.old { cues = with_time self.old.cues n (CueTime.Follow time) } }
+    {
+        self.set_time(n, CueTime::Follow(time));
+    }
+
     /// Sets a time of cue `n`: a rate, whose time and delay are at most 5,999,990 milliseconds, or
     /// a follow-on time of at most as many. The one of its kind set last counts.
     pub fn set_time(&mut self, n: u32, time: CueTime)
@@ -426,9 +459,23 @@ impl Show {
         found
     }
 
+    /// The 512 slots of the universe of an ordinal below 16, with cue `n` alone at full and the
+    /// grand master at 255.
+    pub fn look_slots(&self, n: u32, ordinal: u16) -> Frame
+        requires there { IsTrue (map.contains_key self.now.cues n) }
+        requires below { ordinal < 16 }
+        ensures { IfSome (map.get self.now.cues n)
+            (λ cue. result ≡ look_frame cue.levels self.now.patch ordinal) }
+    {
+        match self.cue(n) {
+            Some(cue) => self.cue_slots(&cue, ordinal),
+            None => [0; 512],
+        }
+    }
+
     /// The 512 slots of the universe of an ordinal below 16, with a cue alone at full and the grand
     /// master at 255.
-    pub fn look_slots(&self, cue: &Cue<'_>, ordinal: u16) -> Frame
+    pub fn cue_slots(&self, cue: &Cue<'_>, ordinal: u16) -> Frame
         requires { ordinal < 16 }
         ensures { result ≡ look_frame cue.now.levels self.now.patch ordinal }
     {

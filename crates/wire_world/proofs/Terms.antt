@@ -9,7 +9,7 @@ pub use Rattle.wire_world.specs.Happened.{datagram_to, packets_sent, stream, unl
 pub use Rattle.wire_world.specs.Shelves.{IsRest, gone_of, shelf_packets}
 pub use Rattle.wire_world.specs.StageStands.{LinkTells, StageStands}
 pub use Rattle.wire_world.specs.Stands.{AllAre, AllHear, AllTell, ConsolesStand, HasOpened}
-pub use Rattle.wire_world.specs.Stands.{HasReplayed, SendersAreSources, cast, world_in, world_of}
+pub use Rattle.wire_world.specs.Stands.{HasReplayed, SendersAreSources, cast, world_of}
 pub use Rattle.wire_world.specs.World.{IsIdentity, IsWorld, World, console_at, no_console, plays}
 pub use Rattle.wire_world.specs.World.{universe_at}
 pub use Rattle.wire_world.specs.declared.event.Event.{Event}

@@ -2,7 +2,6 @@
 -- Of use inside the crate: what its public calls answer is said without these.
 use Rattle.console.specs.Streams.{Production}
 use Rattle.show_core.specs.Tables.{Tables}
-use Rattle.wire_world.specs.declared.rehearsal.Rehearsal.{Rehearsal}
 use Rattle.wire_world.specs.declared.setup.Setup.{Setup}
 use Rattle.std.specs.Prelude.{map, slice_index, slice_index_or, [], take, ◌<◌, Bool, true, false}
 use Rattle.std.specs.Prelude.{◌≡◌, ◌≤◌, ℕ, List, ◌∷◌, length, if◌then◌else◌, is_some, Option, Some}
@@ -130,7 +129,3 @@ world_of shows setups receivers strays = record {
   receivers = receivers;
   strays = strays;
 }
-
--- the world of what is rehearsed
-abbrev pub world_in : Rehearsal → World
-world_in r = world_of r.shows.now r.consoles.now r.receivers.now r.strays.now

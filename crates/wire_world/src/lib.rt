@@ -9,14 +9,7 @@
 //! ```
 //! let setup = Setup { show: 0, base: 1, identity };
 //! let events = [Event { moment: 0, what: What::Tick(0) }];
-//! let rehearsal = Rehearsal {
-//!     shows: &[show],
-//!     consoles: &[setup],
-//!     receivers: &[1],
-//!     events: &events,
-//!     strays: &[],
-//! };
-//! let report = rehearse::<StepFader>(rt.alloc(), rehearsal)?;
+//! let report = rehearse::<StepFader>(rt.alloc(), &[show], &[setup], &[1], &events, &[])?;
 //! // report.replies has the reply to each event; report.last each receiver's slots at the end.
 //! ```
 #![tactic(auto)]
@@ -52,7 +45,7 @@ mod tick_offers;
 
 pub use console::Offers;
 pub use event::{Event, What};
-pub use rehearsal::{Rehearsal, rehearse};
+pub use rehearsal::rehearse;
 pub use rehearsal_faults::Fault;
 pub use reply::{Reply, Skip};
 pub use report::Report;

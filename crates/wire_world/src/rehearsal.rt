@@ -3,7 +3,7 @@ ghost use Rattle.wire_world.specs.Promised.{AnswersAlone, ShowsMeaning, ShowsMer
 ghost use Rattle.wire_world.specs.Promised.{ShowsUnpatchedAsZero};
 ghost use Rattle.wire_world.specs.Refusing.{AnswersSetup, are_within, setup_fault};
 ghost use Rattle.wire_world.specs.Replies.{AreReplies, events_done, last_slots};
-ghost use Rattle.wire_world.specs.Stands.{world_in};
+ghost use Rattle.wire_world.specs.Stands.{world_of};
 ghost use Rattle.wire_world.specs.World.{IsWorld};
 
 use crate::perform::perform;
@@ -12,21 +12,6 @@ use crate::{Event, Fault, Report, Setup};
 use fade_core::Fader;
 use show_core::Show;
 use std::alloc::{AllocError, Global};
-
-/// What is rehearsed: what happens among consoles and receivers.
-#[derive(Clone, Copy, Debug)]
-pub struct Rehearsal<'a> {
-    /// The shows, each played by any number of consoles.
-    pub shows: &'a [Show],
-    /// The consoles, by their numbers.
-    pub consoles: &'a [Setup],
-    /// The universes of the receivers, by their numbers.
-    pub receivers: &'a [u16],
-    /// What happens, one after another.
-    pub events: &'a [Event],
-    /// The bytes of all strays.
-    pub strays: &'a [u8],
-}
 
 /// Carries out the events, one after another, among one to four consoles, each with one of the
 /// shows, and at most eight receivers, each of a universe of its own, 1 to 63999. Loss is a packet
@@ -41,34 +26,42 @@ pub struct Rehearsal<'a> {
 ///
 /// The first reason of [`Fault`] that applies; then nothing is rehearsed. `Memory` if an allocation
 /// failed.
-pub fn rehearse<F: Fader>(alloc: Global, rehearsal: Rehearsal<'_>) -> Result<Report, Fault>
-    requires within { IsTrue (are_within (length rehearsal.strays.now) rehearsal.events.now) }
-    ensures faults { let r = rehearsal.entry in
-        AnswersSetup (setup_fault r.shows.now r.consoles.now r.receivers.now) result }
+pub fn rehearse<F: Fader>(
+    alloc: Global,
+    shows: &[Show],
+    consoles: &[Setup],
+    receivers: &[u16],
+    events: &[Event],
+    strays: &[u8],
+) -> Result<Report, Fault>
+    requires within { IsTrue (are_within (length strays.now) events.now) }
+    ensures faults { AnswersSetup (setup_fault shows.now consoles.now receivers.now) result }
 
     // Each console's universes have numbers, and whoever sends for one is a source of E1.31.
-    ensures world { OnOk result (IsWorld (world_in rehearsal.entry)) }
-    ensures few { OnOk result (length (world_in rehearsal.entry).consoles ≤ 4) }
+    ensures world { OnOk result (IsWorld
+        (world_of shows.now consoles.now receivers.now strays.now)) }
+    ensures few { let w = world_of shows.now consoles.now receivers.now strays.now in
+        OnOk result (length w.consoles ≤ 4) }
 
-    ensures replies { let r = rehearsal.entry in
-        IfOk result (λ report. AreReplies (world_in r) r.events.now report.replies) }
-    ensures last { let r = rehearsal.entry in IfOk result (λ report.
-        report.last ≡ last_slots (world_in r) (events_done (world_in r) r.events.now)) }
+    ensures replies { let w = world_of shows.now consoles.now receivers.now strays.now in
+        IfOk result (λ report. AreReplies w events.now report.replies) }
+    ensures last { let w = world_of shows.now consoles.now receivers.now strays.now in
+        IfOk result (λ report. report.last ≡ last_slots w (events_done w events.now)) }
 
     // The promise.
-    ensures headline { let r = rehearsal.entry in
-        IfOk result (ShowsMeaning (world_in r) r.events.now) }
-    ensures unpatched { let r = rehearsal.entry in
-        IfOk result (ShowsUnpatchedAsZero (world_in r) r.events.now) }
-    ensures window_law { let r = rehearsal.entry in
-        IfOk result (ShowsOnePacket (world_in r) r.events.now) }
-    ensures merge_law { let r = rehearsal.entry in
-        IfOk result (ShowsMerge (world_in r) r.events.now) }
-    ensures independent { let r = rehearsal.entry in
-        IfOk result (AnswersAlone (world_in r) r.events.now) }
+    ensures headline { let w = world_of shows.now consoles.now receivers.now strays.now in
+        IfOk result (ShowsMeaning w events.now) }
+    ensures unpatched { let w = world_of shows.now consoles.now receivers.now strays.now in
+        IfOk result (ShowsUnpatchedAsZero w events.now) }
+    ensures window_law { let w = world_of shows.now consoles.now receivers.now strays.now in
+        IfOk result (ShowsOnePacket w events.now) }
+    ensures merge_law { let w = world_of shows.now consoles.now receivers.now strays.now in
+        IfOk result (ShowsMerge w events.now) }
+    ensures independent { let w = world_of shows.now consoles.now receivers.now strays.now in
+        IfOk result (AnswersAlone w events.now) }
 {
-    check(rehearsal.shows, rehearsal.consoles, rehearsal.receivers)?;
-    match perform::<F>(alloc, rehearsal) {
+    check(shows, consoles, receivers)?;
+    match perform::<F>(alloc, shows, consoles, receivers, events, strays) {
         Ok(report) => Ok(report),
         Err(AllocError) => Err(Fault::Memory),
     }

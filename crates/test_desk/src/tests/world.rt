@@ -13,9 +13,7 @@ use show_core::{BuildFault, Show};
 use std::alloc::{AllocError, Global};
 use std::process::Abort;
 use std::test::Fail;
-use wire_world::{
-    Event, Fault, Offers, Rehearsal, Reply, Report, Setup, Skip, What, laws, rehearse,
-};
+use wire_world::{Event, Fault, Offers, Reply, Report, Setup, Skip, What, laws, rehearse};
 
 // Two cues; submaster 1 has channel 1 at half, and dimmers 1 and 2 are patched to channels 1 and 2
 // at full.
@@ -104,14 +102,7 @@ fn rehearsed_by(
     events: &[Event],
 ) -> Result<Report, Fault> {
     assert!(rt; are_within(events, 0));
-    let rehearsal = Rehearsal {
-        shows,
-        consoles: &[console],
-        receivers: &[1],
-        events,
-        strays: &[],
-    };
-    rehearse::<PlainFader>(alloc, rehearsal)
+    rehearse::<PlainFader>(alloc, shows, &[console], &[1], events, &[])
 }
 
 // Of a console of the first show.

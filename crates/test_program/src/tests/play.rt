@@ -2,7 +2,7 @@ mod devices_fail;
 mod rows;
 
 use cmd_faults::RunFault;
-use cmd_play::{Setup, play};
+use cmd_play::play;
 use devices::memory::{MemoryFeed, MemoryLink, MemoryOutput};
 use fade_core::PlainFader;
 use sacn_packet::SourceName;
@@ -60,12 +60,15 @@ impl Run {
         let mut feed = MemoryFeed::new(input, setting.step, setting.read, 1);
         let mut link = MemoryLink::new(alloc, setting.send, 1);
         let mut out = MemoryOutput::new(alloc, setting.write, 1);
-        let setup = Setup {
-            show: setting.show,
-            identity: identity(rt),
-            base: setting.base,
-        };
-        let answer = play::<PlainFader, _, _, _>(alloc, setup, &mut feed, &mut link, &mut out);
+        let answer = play::<PlainFader, _, _, _>(
+            alloc,
+            setting.show,
+            identity(rt),
+            setting.base,
+            &mut feed,
+            &mut link,
+            &mut out,
+        );
         Run { answer, link, out }
     }
 

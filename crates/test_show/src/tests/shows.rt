@@ -46,8 +46,8 @@ fn slot(show: &Show, ordinal: u16, place: usize) -> Option<u8> {
     if ordinal >= 16 {
         return None;
     }
-    let slots = show.look_slots(&show.cue(1000)?, ordinal);
-    slots.get(place).copied()
+    show.cue(1000)?;
+    show.look_slots(1000, ordinal).get(place).copied()
 }
 
 fn open_cues(show: &mut Show, numbers: &[u32]) -> Result<(), BuildFault> {

@@ -127,7 +127,7 @@ fn changes_back_and_ends(rt: HostRuntime) {
         sender.terminate(1, &mut link),
         sender.terminate(1, &mut link),
     ];
-    assert!(rt; are_right && ends == [Sent(6), Sent(7), Sent(8)] && sender.packets_sent(1) == 9);
+    assert!(rt; are_right && ends == [Sent(6), Sent(7), Sent(8)] && sender.sent(1) == 9);
     let packets = [
         ((0, 0, 10), false),
         ((1, 0, 20), false),
@@ -149,7 +149,7 @@ fn each_growth_refused(rt: HostRuntime) {
         Ok(sender) => sender,
         Err(_) => Sender::open(rt.alloc(), player(), &[1, 2]).expect(&rt, "memory"),
     };
-    assert!(rt; sender.packets_sent(1) == 0 && sender.packets_sent(2) == 0);
+    assert!(rt; sender.sent(1) == 0 && sender.packets_sent(2) == 0);
 }
 
 #[test]

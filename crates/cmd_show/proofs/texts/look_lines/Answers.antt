@@ -15,6 +15,6 @@ loop-ordinal-preserved c =
       c.in_ok-digits.ensures,
     ) in
     line_added c.args.look.now.levels c.args.show.now.patch c.args.cid
-    c.args.ordinals.now c.loop-ordinal.ordinal-index text packet c.look_slots.result longer
+    c.args.ordinals.now c.loop-ordinal.ordinal-index text packet c.cue_slots.result longer
     c.loop-ordinal-test.true c.loop-ordinal.invariant c.look_packet-packet.ensures
-    c.look_slots.ensures added
+    c.cue_slots.ensures added

@@ -1,7 +1,7 @@
 use super::booth::Coming;
 use super::{Run, SMALL, Setting, identity, plain};
 use cmd_faults::RunFault;
-use cmd_play::{Setup, play};
+use cmd_play::play;
 use devices::memory::{MemoryFeed, MemoryLink, MemoryOutput};
 use fade_core::PlainFader;
 use std::alloc::Global;
@@ -54,12 +54,15 @@ pub fn play_offers(rt: &impl Abort, alloc: Global, kept: &[u8]) -> MemoryLink {
     let mut feed = MemoryFeed::new(kept, 4096, 0, 0);
     let mut link = MemoryLink::new(alloc, 0, 0);
     let mut out = MemoryOutput::new(alloc, 0, 0);
-    let setup = Setup {
-        show: SMALL,
-        identity: identity(rt),
-        base: 1,
-    };
-    let answer = play::<PlainFader, _, _, _>(alloc, setup, &mut feed, &mut link, &mut out);
+    let answer = play::<PlainFader, _, _, _>(
+        alloc,
+        SMALL,
+        identity(rt),
+        1,
+        &mut feed,
+        &mut link,
+        &mut out,
+    );
     assert!(rt; answer == Ok(()));
     link
 }

@@ -1,22 +1,22 @@
 use Rattle.std.proofs.Common.{length, ap, sym, ◌∙◌}
-use Rattle.wire_world.proofs.Terms.{result_err, world_in}
+use Rattle.wire_world.proofs.Terms.{result_err, world_of}
 use Rattle.wire_world.proofs.Shown.{answers_alone, means, merges, near, silence, was_shown, zero}
 use Rattle.wire_world.proofs.Refusals.{all_within, fine_world, universes_there}
 use Rattle.wire_world.proofs.rehearsal.rehearse.Goals as goal
 
 pub perform-requires-clause-universes : goal.perform-requires-clause-universes
-perform-requires-clause-universes g c = let r = c.args.rehearsal in
+perform-requires-clause-universes g c = let r = c.args in
     universes_there r.shows.now r.consoles.now r.receivers.now
     (sym c.check.ensures ∙ ap result_err c.in_ok-check.was)
 
 pub perform-requires-clause-within : goal.perform-requires-clause-within
-perform-requires-clause-within g c = let r = c.args.rehearsal in
+perform-requires-clause-within g c = let r = c.args in
     all_within (length r.strays.now) r.events.now c.requires.within
 
 pub returns-in-Ok : goal.returns-in-Ok
 returns-in-Ok g c =
-    let r = c.args.rehearsal in
-    let w = world_in r in
+    let r = c.args in
+    let w = world_of r.shows.now r.consoles.now r.receivers.now r.strays.now in
     let events = r.events.now in
     let none = sym c.check.ensures ∙ ap result_err c.in_ok-check.was in
     let fine = fine_world r.shows.now r.consoles.now r.receivers.now r.strays.now none

@@ -1,7 +1,7 @@
 use Rattle.show_core.proofs.Terms.{◌≡◌, ℕ, ◌+◌, ◌*◌, ◌<◌, List, length, get_or, refl, sym, ◌∙◌, arith}
 use Rattle.show_core.proofs.Terms.{map, range_with_len, ext_get_or, length-set, fill_by_more}
 use Rattle.show_core.proofs.Terms.{length-map-range_with_len, get_or-map-range_with_len, look_slot}
-use Rattle.show_core.proofs.show.Show.look_slots.Goals as goal
+use Rattle.show_core.proofs.show.Show.cue_slots.Goals as goal
 
 frame_is : (f : ℕ → ℕ) (a n : ℕ) (xs : List ℕ) → length xs ≡ n
     → ((i : ℕ) → i < n → get_or xs i 0 ≡ f (a + i)) → xs ≡ map f (range_with_len a n)

@@ -1,5 +1,5 @@
 use Rattle.show_core.proofs.Terms.{◌≡◌, ℕ, ◌+◌, ◌*◌, ◌<◌, length, get_or, look_slot}
-use Rattle.show_core.proofs.show.Show.look_slots.Given as goal
+use Rattle.show_core.proofs.show.Show.cue_slots.Given as goal
 
 abbrev pub invariant-loop-place : goal.invariant-loop-place
 invariant-loop-place l = record {

@@ -1,6 +1,6 @@
 use Rattle.std.proofs.Common.{◌∙◌, sym}
 use Rattle.sacn_source.proofs.SenderLemmas.{is_there, lane_found, no_lane}
-use Rattle.sacn_source.proofs.sender.Sender.packets_sent.Goals as goal
+use Rattle.sacn_source.proofs.sender.Sender.sent.Goals as goal
 
 pub returns-in-Some-clause-sent : goal.returns-in-Some-clause-sent
 returns-in-Some-clause-sent c = λ who offers n s.
