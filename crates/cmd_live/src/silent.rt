@@ -1,5 +1,3 @@
-ghost use Rattle.std.specs.Prelude.{[]};
-
 use devices::{Link, LinkFault};
 
 /// A link that takes nothing, and does not tell what it was offered.
@@ -7,10 +5,6 @@ use devices::{Link, LinkFault};
 pub struct Silent;
 
 impl Link for Silent {
-    ghost tells = { λ _. ⊥ };
-
-    ghost offered = { λ _. [] };
-
     fn send(&mut self, _universe: u16, _bytes: &[u8]) -> Result<(), LinkFault> {
         Err(LinkFault)
     }

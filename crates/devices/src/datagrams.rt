@@ -9,10 +9,10 @@ use crate::LinkFault;
 /// [`Output`](crate::Output).
 pub trait Datagrams {
     /// Contracts can see what the source did.
-    ghost tells: { Self → Type 0 };
+    ghost tells: { Self → Type 0 } = { λ _. ⊥ };
 
     /// The datagrams that the source gave, each of at most 1,500 bytes. A failed call gives none.
-    ghost tape: { Self → Tape (List ℕ) };
+    ghost tape: { Self → Tape (List ℕ) } = { λ _. record { items = []; failures = 0 } };
 
     /// Waits for the next datagram, writes its bytes to the front of the buffer, and answers how
     /// many there are. Of a datagram that is longer than the buffer the first 1,500 bytes are

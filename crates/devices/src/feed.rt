@@ -1,4 +1,4 @@
-ghost use Rattle.std.specs.Prelude.{◌≡◌, ◌≤◌, ℕ, IfOk, OnErr, take};
+ghost use Rattle.std.specs.Prelude.{◌≡◌, ◌≤◌, ℕ, [], IfOk, OnErr, take};
 ghost use Rattle.devices.specs.Tape.{Tape, with_more, with_failure};
 
 use crate::LinkFault;
@@ -9,13 +9,13 @@ use crate::LinkFault;
 /// [`Output`](crate::Output).
 pub trait Feed {
     /// Contracts can see what the feed did.
-    ghost tells: { Self → Type 0 };
+    ghost tells: { Self → Type 0 } = { λ _. ⊥ };
 
     /// The bytes that the feed gave. A failed call gives none.
-    ghost tape: { Self → Tape ℕ };
+    ghost tape: { Self → Tape ℕ } = { λ _. record { items = []; failures = 0 } };
 
     /// The feed was read to its end.
-    ghost ended: { Self → Type 0 };
+    ghost ended: { Self → Type 0 } = { λ _. ⊥ };
 
     /// Writes the next bytes to the front of the buffer, and answers how many there are: none only
     /// at the end.

@@ -9,10 +9,10 @@ use crate::LinkFault;
 /// [`Output`](crate::Output).
 pub trait Link {
     /// Contracts can see what the link was offered.
-    ghost tells: { Self → Type 0 };
+    ghost tells: { Self → Type 0 } = { λ _. ⊥ };
 
     /// The sends that the link was offered, those that failed too, the first first.
-    ghost offered: { Self → List Send };
+    ghost offered: { Self → List Send } = { λ _. [] };
 
     /// Sends a packet to a universe, 1 to 63999. A failed send is not made again.
     fn send(&mut self, universe: u16, bytes: &[u8]) -> Result<(), LinkFault>

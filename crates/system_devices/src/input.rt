@@ -1,5 +1,3 @@
-ghost use Rattle.std.specs.Prelude.{[]};
-
 use byte_reading::read_some;
 use devices::{Feed, LinkFault};
 use std::io::Read;
@@ -17,12 +15,6 @@ impl<R: Read> SystemInput<R> {
 }
 
 impl<R: Read> Feed for SystemInput<R> {
-    ghost tells = { λ _. ⊥ };
-
-    ghost tape = { λ _. record { items = []; failures = 0 } };
-
-    ghost ended = { λ _. ⊥ };
-
     fn read(&mut self, buf: &mut [u8; 4096]) -> Result<usize, LinkFault> {
         read_some(&mut self.inner, buf).map_err(|_| LinkFault)
     }

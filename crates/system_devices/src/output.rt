@@ -1,5 +1,3 @@
-ghost use Rattle.std.specs.Prelude.{[]};
-
 use crate::way::kind_of;
 use devices::{LinkFault, Output};
 use job_devices::JobOutput;
@@ -23,10 +21,6 @@ impl<W: Write> SystemOutput<W> {
 }
 
 impl<W: Write> Output for SystemOutput<W> {
-    ghost tells = { λ _. ⊥ };
-
-    ghost tape = { λ _. record { items = []; failures = 0 } };
-
     fn write(&mut self, bytes: &[u8]) -> Result<(), LinkFault> {
         let answer = self.inner.write_all(bytes).map_err(kind_of);
         self.history.take_up(bytes, answer)

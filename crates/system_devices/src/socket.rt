@@ -59,10 +59,6 @@ impl ReceivingSocket {
 }
 
 impl Datagrams for ReceivingSocket {
-    ghost tells = { λ _. ⊥ };
-
-    ghost tape = { λ _. record { items = []; failures = 0 } };
-
     fn receive(&mut self, buf: &mut [u8; 1500]) -> Result<usize, LinkFault> {
         let socket = &self.inner;
         match call_again(&mut DatagramReceipt { socket, buf }) {

@@ -1,4 +1,4 @@
-ghost use Rattle.std.specs.Prelude.{◌≡◌, [], is_err};
+ghost use Rattle.std.specs.Prelude.{◌≡◌, is_err};
 ghost use Rattle.targets.specs.Choice.{addresses_of};
 ghost use Rattle.targets.specs.Datagram.{SendsToAll};
 
@@ -30,10 +30,6 @@ impl<S: Sender> TargetLink<S> {
 }
 
 impl<S: Sender> Link for TargetLink<S> {
-    ghost tells = { λ _. ⊥ };
-
-    ghost offered = { λ _. [] };
-
     /// Sends a packet to each address of its universe, also behind one that failed. The packet is
     /// lost where one of these sends failed.
     fn send(&mut self, universe: u16, bytes: &[u8]) -> Result<(), LinkFault>

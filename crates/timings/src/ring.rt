@@ -1,5 +1,3 @@
-ghost use Rattle.std.specs.Prelude.{[]};
-
 use crate::packets::{Packet, SLOTS};
 use sacn_source::{Link, LinkFault};
 use std::alloc::{AllocError, Global};
@@ -37,10 +35,6 @@ impl Ring {
 }
 
 impl Link for Ring {
-    ghost tells = { λ _. ⊥ };
-
-    ghost offered = { λ _. [] };
-
     fn send(&mut self, _universe: u16, bytes: &[u8]) -> Result<(), LinkFault> {
         match self.packets.get_mut(self.next) {
             Some(packet) if packet.len() == bytes.len() => packet.copy_from_slice(bytes),
