@@ -1,6 +1,5 @@
 //! What a job has of the machine, as contracts see it: an output that is standard output, and a
-//! source that is a socket, each of which knows why the system did not do what was asked; and what
-//! a night that is played from lines takes, in its order ([`play_from_lines`]).
+//! source that is a socket, each of which knows why the system did not do what was asked.
 //!
 //! Each has a device over memory beside it, for tests.
 //!
@@ -12,13 +11,9 @@
 #![tactic(auto)]
 
 mod memory;
-mod memory_play;
 mod output;
-mod play;
 mod source;
 
 pub use memory::{MemoryJobOutput, MemoryJobSource};
-pub use memory_play::{MemoryPlay, PlayAnswers};
 pub use output::JobOutput;
-pub use play::{LockAnswer, PlayStep, PlaySystem, play_from_lines};
 pub use source::JobSource;

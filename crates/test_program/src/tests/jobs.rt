@@ -1,8 +1,5 @@
 use devices::memory::{MemoryFeed, MemoryOutput};
-use job_devices::{
-    JobOutput, LockAnswer, MemoryJobOutput, MemoryPlay, PlayAnswers, PlayStep, play_from_lines,
-};
-use memory_steps::MemorySteps;
+use job_devices::{JobOutput, MemoryJobOutput};
 use show_jobs::{check_show, list_cues};
 use std::alloc::Global;
 use std::io::ErrorKind;
@@ -11,16 +8,6 @@ use stream_jobs::watch_lines;
 const SHOW: &[u8] = b"CUE 1\nENDDATA\n";
 
 const COUNTS: &[u8] = b"lines 2 cues 1 subs 0 groups 0 dimmers 0 skipped 0\n";
-
-const STEPS: &[PlayStep] = &[
-    PlayStep::AskForStandard(true),
-    PlayStep::ReadShow(true),
-    PlayStep::TellSeeming,
-    PlayStep::TakeLock(LockAnswer::Missing),
-    PlayStep::TellNoLock,
-    PlayStep::OpenNetwork(true),
-    PlayStep::Play(true),
-];
 
 // Standard output, whose call of this number fails, from 1.
 fn output(alloc: Global, failing: u64) -> MemoryJobOutput {
@@ -47,18 +34,4 @@ fn nothing_is_watched_of_no_input(rt: HostRuntime) {
     let mut out = output(rt.alloc(), 0);
     let mut input = MemoryFeed::new(b"", 1, 0, 0);
     assert!(rt; watch_lines(rt.alloc(), &mut input, &[1], &mut out).is_ok());
-}
-
-#[test]
-fn a_night_from_lines_takes_its_steps_in_order(rt: HostRuntime) {
-    let answers = PlayAnswers {
-        has_standard: true,
-        has_show: true,
-        lock: LockAnswer::Missing,
-        has_network: true,
-        is_played: true,
-    };
-    let mut system: MemoryPlay = MemorySteps::new(rt.alloc(), answers);
-    assert!(rt; play_from_lines(&mut system, ()).is_ok());
-    assert!(rt; system.steps.as_slice() == STEPS);
 }
