@@ -235,7 +235,7 @@ class Version(CopiedLayout):
             ("crates/cueplayer/out/x", "other", False),
             ("crates.txt", (self.top / "crates.txt").read_text() + "more: low\n", False),
             ("crates/low/specs/More.antt", "other", True),
-            ("crates/show/src/lib.rt", "other", True),
+            ("crates/show_core/src/lib.rt", "other", True),
             ("HANDLES", "other", True),
             ("crates.txt", (self.top / "crates.txt").read_text().replace(" show", ""), True),
         ):
