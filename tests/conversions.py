@@ -5,8 +5,8 @@ from expected import show as shows
 from program import FolderTest, run, text
 from tooling import run_tool
 
-from cueplayer_tools.conversion import convert
-from cueplayer_tools.export_records import Choices
+from cueplayer_tools.convert.conversion import convert
+from cueplayer_tools.convert.exports.records import Choices
 
 # What an export has besides: here behind the lines of a test, so that they keep their numbers.
 BOUNDS = ("IDENT 3:0", "ENDDATA")

@@ -11,7 +11,7 @@ from expected.receiver import Receiver
 from expected.runs import wire
 from expected.script import Console
 
-from cueplayer_tools.storm_network import Network, Outage
+from cueplayer_tools.storm.network import Network, Outage
 
 LOST = 2500
 # All that happens in a small storm does so at such moments.

@@ -4,7 +4,7 @@ import unittest
 
 import tooling  # noqa: F401  (puts the tools on the path)
 
-from cueplayer_tools.words import Refused, command_line
+from cueplayer_tools.line_protocol import Refused, command_line
 
 SPELLED = (
     ("GO", "go"),

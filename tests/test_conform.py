@@ -22,15 +22,15 @@ from small_receivers import Small
 from tooling import run_tool
 from wire import own_network
 
+from cueplayer_tools.conform.command import main
 from cueplayer_tools.conform.expected import slots_of
 from cueplayer_tools.conform.peers import SteppedClock
 from cueplayer_tools.conform.report import rules_found
+from cueplayer_tools.conform.rounds import Setting, try_all
 from cueplayer_tools.conform.rules import RULES
 from cueplayer_tools.conform.source_rules import RULES as SOURCE_RULES
 from cueplayer_tools.conform.source_rules import judged_source
 from cueplayer_tools.conform.streams import listening_of
-from cueplayer_tools.conform.rounds import Setting, try_all
-from cueplayer_tools.conform_command import main
 
 # A machine that stood still for so long, in milliseconds, may have held up a source.
 STALLED = 20

@@ -14,7 +14,7 @@ from tooling import run_tool
 from cueplayer_tools.conform.diagnoses import diagnoses_of
 from cueplayer_tools.conform.peers import NetworkFault, PeerFault, SteppedClock
 from cueplayer_tools.conform.rounds import Setting, try_all
-from cueplayer_tools.words import Refused
+from cueplayer_tools.line_protocol import Refused
 
 CUT = ("cut datagrams", "in the header")
 # A datagram of so many bytes ends the receivers here: one of those that the case above sends.

@@ -11,17 +11,17 @@ from program import FolderTest
 from small_receivers import Small
 from tooling import run_tool
 
+from cueplayer_tools.captures.writing import Frame, capture_of
 from cueplayer_tools.conform.baseline import baseline_in, differences
 from cueplayer_tools.conform.captured import write_captures
 from cueplayer_tools.conform.diagnoses import diagnoses_of
 from cueplayer_tools.conform.estimate import seconds_of
 from cueplayer_tools.conform.junit import junit
-from cueplayer_tools.captures.writing import Frame, capture_of
 from cueplayer_tools.conform.peers import SteppedClock
 from cueplayer_tools.conform.report import Finding, Result, RuleFound, rules_found
 from cueplayer_tools.conform.script import Datagram, Look
 from cueplayer_tools.conform.trial import REST, Trial
-from cueplayer_tools.words import Refused
+from cueplayer_tools.line_protocol import Refused
 
 # Of a checksum, as tshark names it.
 GOOD = "1"

@@ -18,10 +18,10 @@ from expected import show as shows
 from program import TOP, text
 from tooling import TOOLS, run_tool
 
-from cueplayer_tools import convert_command
-from cueplayer_tools.conversion import convert
-from cueplayer_tools.conversion_report import CHANGED, LEFT_OUT
-from cueplayer_tools.words import Refused
+from cueplayer_tools.convert import command as convert_command
+from cueplayer_tools.convert.conversion import convert
+from cueplayer_tools.convert.report import CHANGED, LEFT_OUT
+from cueplayer_tools.line_protocol import Refused
 
 EXPORTS = TOP / "examples/exports"
 STYLES = {

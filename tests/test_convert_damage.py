@@ -12,8 +12,8 @@ import damaged_exports as exports
 from conversions import conversion_of
 from expected import show as shows
 
-from cueplayer_tools.conversion_report import CHANGED, DOUBT, LOST, NOT_PLAYED
-from cueplayer_tools.words import Refused
+from cueplayer_tools.convert.report import CHANGED, DOUBT, LOST, NOT_PLAYED
+from cueplayer_tools.line_protocol import Refused
 
 # How many damaged exports are converted. The gate takes a few.
 CASES = int(os.environ.get("CONVERT_DAMAGED", "400"))

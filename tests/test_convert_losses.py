@@ -9,7 +9,7 @@ from expected import show as shows
 from program import TOP, text
 from tooling import run_tool
 
-from cueplayer_tools.conversion_report import CHANGED, DOUBT, LEFT_OUT, LOST, NOT_PLAYED
+from cueplayer_tools.convert.report import CHANGED, DOUBT, LEFT_OUT, LOST, NOT_PLAYED
 
 EXPORTS = TOP / "examples/exports"
 PATCH = "PATCH 1 1<1@FL 2<2@FL 3<3@FL"

@@ -5,10 +5,10 @@ import unittest
 from conversions import ConvertTest
 from expected import show as shows
 
-from cueplayer_tools import export_forms
-from cueplayer_tools.conversion import free_numbers
-from cueplayer_tools.conversion_report import CHANGED, DOUBT, LEFT_OUT, LOST, NOT_PLAYED
-from cueplayer_tools.export_words import is_near
+from cueplayer_tools.convert.conversion import free_numbers
+from cueplayer_tools.convert.exports import forms as export_forms
+from cueplayer_tools.convert.exports.words import is_near
+from cueplayer_tools.convert.report import CHANGED, DOUBT, LEFT_OUT, LOST, NOT_PLAYED
 
 COMMA = "is a time and a delay: is the comma a point?"
 PATCH = "PATCH 1 1<1@FL 2<2@FL 3<3@FL"

@@ -24,8 +24,8 @@ from test_osc import GREATEST_DOUBLE, message
 from tooling import PATIENCE, TOOLS, Started, run_tool, wait_for
 from wire import OPTIONS, TERMINATED, free_port, own_network
 
-from cueplayer_tools import desk_night
 from cueplayer_tools.cue_list import read_show
+from cueplayer_tools.desk import night as desk_night
 from cueplayer_tools.live_lines import read_live_line
 from cueplayer_tools.teller import Teller
 

@@ -11,9 +11,9 @@ from program import text
 from test_desk_doors import DoorTest
 from tooling import wait_for
 
-from cueplayer_tools import desk_looks
 from cueplayer_tools.cue_list import read_show
-from cueplayer_tools.desk_looks import BlindLooks
+from cueplayer_tools.desk import looks as desk_looks
+from cueplayer_tools.desk.looks import BlindLooks
 
 
 @unittest.skipUnless(CHROMIUM, MISSING)

@@ -19,12 +19,14 @@ from browser import CHROMIUM, MISSING, Browser
 from desks import DeskTest, Page
 from tooling import PATIENCE, run_tool, wait_for
 
-from cueplayer_tools import desk_picture, desk_pins
-from cueplayer_tools.desk_network import warnings
-from cueplayer_tools.desk_pins import Pins, Role
-from cueplayer_tools.desk_server import PIN_FILES
+from cueplayer_tools.desk import picture as desk_picture
+
+from cueplayer_tools.desk import pins as desk_pins
+from cueplayer_tools.desk.network import warnings
+from cueplayer_tools.desk.pins import Pins, Role
+from cueplayer_tools.desk.server import PIN_FILES
+from cueplayer_tools.line_protocol import Refused
 from cueplayer_tools.own_addresses import is_public
-from cueplayer_tools.words import Refused
 
 
 # Stands for python3-qrcode: a code of two rows.
@@ -301,7 +303,7 @@ class Encrypted(DoorTest):
         self.assertNotIn("the network is trusted", self.messages(desk))
 
     def script(self, name):
-        from cueplayer_tools.desk_server import PAGE
+        from cueplayer_tools.desk.server import PAGE
 
         return (PAGE / name).read_text()
 

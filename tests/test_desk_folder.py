@@ -12,8 +12,8 @@ from folders import FolderNightTest, resumes
 from test_osc import GO, message
 from tooling import PATIENCE, Started, run_tool, stand_still, wait_for
 
+from cueplayer_tools.line_protocol import Refused
 from cueplayer_tools.night_folder import NightFolder
-from cueplayer_tools.words import Refused
 
 NO_RESUME = "the program does not know --resume"
 

@@ -5,7 +5,7 @@ import time
 
 from desks import DeskTest
 
-from cueplayer_tools.desk_server import FILES
+from cueplayer_tools.desk.server import FILES
 
 
 class Guards(DeskTest):

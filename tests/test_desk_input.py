@@ -7,9 +7,9 @@ from unittest import mock
 
 import tooling  # noqa: F401  (puts the tools on the path)
 
-from cueplayer_tools import desk_input
-from cueplayer_tools.desk_input import LiveInput
-from cueplayer_tools.words import Refused
+from cueplayer_tools.desk import input as desk_input
+from cueplayer_tools.desk.input import LiveInput
+from cueplayer_tools.line_protocol import Refused
 
 
 class Pipe(unittest.TestCase):

@@ -10,14 +10,20 @@ from desks import SHOW
 from program import FolderTest, text
 from tooling import Lines, stand_still, wait_for
 
-from cueplayer_tools import desk_input
 from cueplayer_tools.cue_list import read_show
-from cueplayer_tools.desk_heard import START_LINES
-from cueplayer_tools.desk_night import Night
-from cueplayer_tools.desk_state import State
-from cueplayer_tools.live_lines import Answer, DroppedReplies, LostPackets, Move, Place
-from cueplayer_tools.live_lines import read_live_line
-from cueplayer_tools.words import Refused
+from cueplayer_tools.desk import input as desk_input
+from cueplayer_tools.desk.heard import START_LINES
+from cueplayer_tools.desk.night import Night
+from cueplayer_tools.desk.state import State
+from cueplayer_tools.line_protocol import Refused
+from cueplayer_tools.live_lines import (
+    Answer,
+    DroppedReplies,
+    LostPackets,
+    Move,
+    Place,
+    read_live_line,
+)
 
 # Stands for `live`: prints what is written to two pipes, and writes to a third what it reads.
 STUB = b"""#!/bin/sh

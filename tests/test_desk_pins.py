@@ -10,8 +10,8 @@ from test_desk_doors import Door, DoorTest
 from test_desk_folder import NO_RESUME, DeskFolderTest
 from tooling import PATIENCE, run_tool, wait_for
 
-from cueplayer_tools.desk_pins import Pins, Role
-from cueplayer_tools.pin_file import PinFile, pin_file
+from cueplayer_tools.desk.pin_file import PinFile, pin_file
+from cueplayer_tools.desk.pins import Pins, Role
 
 
 def pins_of(door):

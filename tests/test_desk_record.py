@@ -18,8 +18,12 @@ from test_desk_folder import NO_RESUME
 from tooling import PATIENCE, TOOLS, Lines, Started, run_tool, wait_for
 from wire import OPTIONS, TERMINATED, terminal
 
-from cueplayer_tools import asking, desk_record, premiere_night
-from cueplayer_tools.words import Refused
+from cueplayer_tools import asking
+
+from cueplayer_tools.desk import record as desk_record
+
+from cueplayer_tools.line_protocol import Refused
+from cueplayer_tools.premiere import night as premiere_night
 
 NAME = re.compile(r"show-\d{4}-\d\d-\d\dT\d{6}(-\d+)?\.play")
 

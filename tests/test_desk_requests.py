@@ -17,7 +17,7 @@ from machine import in_time, took
 from program import text
 from tooling import run_tool, stand_still, wait_for
 
-from cueplayer_tools.desk_requests import LONGEST_HEAD, Unreadable, request_in
+from cueplayer_tools.desk.requests import LONGEST_HEAD, Unreadable, request_in
 
 
 class Requests(DeskTest):

@@ -5,7 +5,7 @@ import uuid
 
 from program import CID
 
-from cueplayer_tools.desk_watch import MOST_NAMED, Others, Watched
+from cueplayer_tools.desk.watch import MOST_NAMED, Others, Watched
 
 OTHER = CID[:-1] + "2"
 THIRD = CID[:-1] + "3"

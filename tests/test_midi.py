@@ -10,10 +10,10 @@ from unittest import mock
 from desks import DeskTest
 from tooling import run_tool, stand_still, wait_for
 
-from cueplayer_tools import midi_port
-from cueplayer_tools.midi_bytes import Exclusive, MidiReader, Note
-from cueplayer_tools.midi_show import Wanted, line_of
-from cueplayer_tools.words import Refused, command_line
+from cueplayer_tools.line_protocol import Refused, command_line
+from cueplayer_tools.midi import port as midi_port
+from cueplayer_tools.midi.bytes import Exclusive, MidiReader, Note
+from cueplayer_tools.midi.show import Wanted, line_of
 
 
 def show(*data, device=0, kind=1):

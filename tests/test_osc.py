@@ -24,11 +24,11 @@ from tooling import PATIENCE, TOOLS, Started, run_tool, stand_still, wait_for
 from wire import SLOT_1, address_of, datagrams_at, receiver_socket
 from worked import S1
 
-from cueplayer_tools import osc_port
 from cueplayer_tools.addresses import bound_socket
-from cueplayer_tools.osc_lines import lines_of
-from cueplayer_tools.osc_port import OscPort
-from cueplayer_tools.words import command_line
+from cueplayer_tools.line_protocol import command_line
+from cueplayer_tools.osc import port as osc_port
+from cueplayer_tools.osc.lines import lines_of
+from cueplayer_tools.osc.port import OscPort
 
 
 def pad(text):

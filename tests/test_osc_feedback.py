@@ -10,10 +10,10 @@ from desks import SHOW, DeskTest
 from test_osc import message, pad
 from tooling import wait_for
 
-from cueplayer_tools import osc_feedback
 from cueplayer_tools.cue_list import Cue, Show
-from cueplayer_tools.desk_state import State
-from cueplayer_tools.osc_packets import messages_of, pack
+from cueplayer_tools.desk.state import State
+from cueplayer_tools.osc import feedback as osc_feedback
+from cueplayer_tools.osc.packets import messages_of, pack
 
 
 def read(datagram):

@@ -14,9 +14,9 @@ from wire import SEQUENCE, SLOT_1, address_of, datagrams_at, receiver_socket
 from worked import S1, plays
 
 from cueplayer_tools import cue_list, night, record, rehearsal
-from cueplayer_tools.axis import clock
-from cueplayer_tools.curves import ranges
-from cueplayer_tools.words import Refused, cue_word
+from cueplayer_tools.line_protocol import Refused, cue_word
+from cueplayer_tools.picture.axis import clock
+from cueplayer_tools.picture.curves import ranges
 
 EXAMPLES = TOP / "examples"
 EVENING = (

@@ -18,11 +18,13 @@ from test_desk_folder import NO_RESUME
 from tooling import PATIENCE, Lines, wait_for
 from wire import free_port, terminal
 
-from cueplayer_tools import premiere_command, premiere_night
+from cueplayer_tools.premiere import command as premiere_command
+
 from cueplayer_tools.cue_list import read_show
-from cueplayer_tools.premiere_night import Premiere
-from cueplayer_tools.premiere_show import Made, is_export
-from cueplayer_tools.words import Refused
+from cueplayer_tools.line_protocol import Refused
+from cueplayer_tools.premiere import night as premiere_night
+from cueplayer_tools.premiere.night import Premiere
+from cueplayer_tools.premiere.show import Made, is_export
 
 PREMIERE = TOP / "cueplayer"
 # An export that says whose it is, and of which nothing is lost.

@@ -14,8 +14,10 @@ from expected import show as shows
 from program import TOP, FolderTest, text
 from tooling import run_tool
 
-from cueplayer_tools import channel_levels, cue_list, looks, sheet_changes
-from cueplayer_tools.sheet_changes import Change
+from cueplayer_tools import channel_levels, cue_list, looks
+
+from cueplayer_tools.sheet import changes as sheet_changes
+from cueplayer_tools.sheet.changes import Change
 
 # The width and height of paper, in inches.
 PAPERS = {"A4": (8.27, 11.69), "Letter": (8.5, 11)}

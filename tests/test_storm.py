@@ -24,15 +24,17 @@ from storms import (
 )
 from tooling import run_tool
 
-from cueplayer_tools import storm_command, storm_seen
+from cueplayer_tools.storm import command as storm_command
+
 from cueplayer_tools.cue_list import read_show
 from cueplayer_tools.record import read_record
-from cueplayer_tools.storm_network import Cable, Network, Outage, Traffic
-from cueplayer_tools.storm_night import Console, cid_of, plan_of, with_ticks
-from cueplayer_tools.storm_premises import premises_of, together
-from cueplayer_tools.storm_report import data
-from cueplayer_tools.storm_sweep import blown, carry
-from cueplayer_tools.storm_verdict import storm_of
+from cueplayer_tools.storm import seen as storm_seen
+from cueplayer_tools.storm.network import Cable, Network, Outage, Traffic
+from cueplayer_tools.storm.night import Console, cid_of, plan_of, with_ticks
+from cueplayer_tools.storm.premises import premises_of, together
+from cueplayer_tools.storm.report import data
+from cueplayer_tools.storm.sweep import blown, carry
+from cueplayer_tools.storm.verdict import storm_of
 
 # So many nights, each in so many networks.
 NIGHTS, NETWORKS = 25, 8

@@ -30,12 +30,12 @@ from program import CID, TOP, FolderTest, packet, run, text
 from tooling import PATIENCE, TOOLS, Lines, run_tool, stand_still, wait_for
 from wire import own_network, terminal
 
-from cueplayer_tools.watch_files import Came, Record, Script
-from cueplayer_tools.watch_rates import Rates
-from cueplayer_tools.watch_state import Watched
-from cueplayer_tools.watch_view import left_lines, silent_text, time_text
-from cueplayer_tools.watch_words import universes_of
-from cueplayer_tools.words import Refused
+from cueplayer_tools.line_protocol import Refused
+from cueplayer_tools.watch.files import Came, Record, Script
+from cueplayer_tools.watch.rates import Rates
+from cueplayer_tools.watch.state import Watched
+from cueplayer_tools.watch.view import left_lines, silent_text, time_text
+from cueplayer_tools.watch.words import universes_of
 
 NIGHTS, IN_A_SCRIPT, SEED = 1_000, 100, 1
 ON_TRIAL = [1, 2, 7, 63999]
@@ -140,7 +140,7 @@ class Kept(FolderTest):
     def test_full_script(self):
         """A script ends before it would be too long, and is told so once."""
         told, name = [], str(self.folder / "short.script")
-        with mock.patch("cueplayer_tools.watch_files.LONGEST_SCRIPT", 4000):
+        with mock.patch("cueplayer_tools.watch.files.LONGEST_SCRIPT", 4000):
             script = Script(name, ON_TRIAL, told.append)
             for number in range(5):
                 script.clock(100 * number)

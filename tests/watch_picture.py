@@ -12,9 +12,9 @@ sys.path[:0] = [str(TESTS), str(TESTS.parent / "tools")]
 
 from program import TOP, packet, run  # noqa: E402  (both are on the path from here on)
 
-from cueplayer_tools.watch_rates import Rates  # noqa: E402
-from cueplayer_tools.watch_state import Watched  # noqa: E402
-from cueplayer_tools.watch_view import Picture, View, picture  # noqa: E402
+from cueplayer_tools.watch.rates import Rates  # noqa: E402
+from cueplayer_tools.watch.state import Watched  # noqa: E402
+from cueplayer_tools.watch.view import Picture, View, picture  # noqa: E402
 
 PICTURE = TOP / "docs/watch.svg"
 SIZE = (104, 25)

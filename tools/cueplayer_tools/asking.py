@@ -3,7 +3,7 @@
 import os
 import sys
 
-from cueplayer_tools.words import Refused
+from cueplayer_tools.line_protocol import Refused
 
 
 def is_at_terminal() -> bool:

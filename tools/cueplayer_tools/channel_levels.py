@@ -5,9 +5,9 @@ import re
 from pathlib import Path
 
 from cueplayer_tools.cue_list import Show, read_show, slot_of
+from cueplayer_tools.line_protocol import Refused
 from cueplayer_tools.looks import looks_of, slots_in
 from cueplayer_tools.record import words_of
-from cueplayer_tools.words import Refused
 
 HIGHEST_CHANNEL = 4096
 _NUMBER = re.compile(r"(?<![^\s\x1a,;/<=>@])\d{1,9}(?![^\s\x1a,;/<=>@])", re.ASCII)

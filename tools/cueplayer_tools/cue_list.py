@@ -6,8 +6,8 @@ from dataclasses import dataclass, field
 from functools import cached_property
 from typing import Any
 
+from cueplayer_tools.line_protocol import Refused, thousandths_of
 from cueplayer_tools.program import run
-from cueplayer_tools.words import Refused, thousandths_of
 
 LONGEST_NAME = 200
 

@@ -2,7 +2,7 @@
 
 import sys
 
-from cueplayer_tools.words import Refused
+from cueplayer_tools.line_protocol import Refused
 
 
 def read_whole(file: str, most: int) -> bytes:

@@ -3,7 +3,7 @@
 import re
 from dataclasses import dataclass, field
 
-from cueplayer_tools.words import cue_word, thousandths_of
+from cueplayer_tools.line_protocol import cue_word, thousandths_of
 
 _CUE = r"(\d{1,4}(?:\.\d{1,3})?)"
 _ANSWER = re.compile(r"(\d{1,15}) (?:ok|refused (\w+))", re.ASCII)

@@ -1,9 +1,9 @@
 """The slots of each cue of a show, at full and at once, as the program shows them."""
 
 from cueplayer_tools.cue_list import Show
+from cueplayer_tools.line_protocol import Refused, cue_word
 from cueplayer_tools.program import run
 from cueplayer_tools.rehearsal import MOST_RECEIVERS, replies_of
-from cueplayer_tools.words import Refused, cue_word
 
 # The slots of a cue, by universe, as the program prints them: `slots 1:255 2:30`.
 Look = dict[int, str]

@@ -8,10 +8,10 @@ from bisect import bisect_left
 from dataclasses import dataclass, field
 
 from cueplayer_tools.cue_list import Show
+from cueplayer_tools.line_protocol import MOVES, Refused, level_byte, thousandths_of
 from cueplayer_tools.live_lines import Move
 from cueplayer_tools.record import Given
 from cueplayer_tools.rehearsal import MOST_RECEIVERS, Event, rehearse
-from cueplayer_tools.words import MOVES, Refused, level_byte, thousandths_of
 
 # Any identity does: what is shown of a night does not hang on its name.
 CONSOLE = "00000000-0000-4000-8000-000000000001"

@@ -19,8 +19,8 @@ from cueplayer_tools.keeper.folder import Folder
 from cueplayer_tools.keeper.locks import is_locked
 from cueplayer_tools.keeper.show_copy import COPY
 from cueplayer_tools.keeper.streams import Failure
+from cueplayer_tools.line_protocol import Refused, printable
 from cueplayer_tools.program import keeper
-from cueplayer_tools.words import Refused, printable
 
 # Seconds for which a line may lie unread, and `live` be away: it is started again at once.
 LATE = 1.0

@@ -3,7 +3,7 @@
 import re
 from dataclasses import dataclass
 
-from cueplayer_tools.words import Refused
+from cueplayer_tools.line_protocol import Refused
 
 _MOMENT = re.compile(r"\d{1,15}", re.ASCII)
 _SEPARATORS = re.compile(r"[ \t\r\x1a,;/<=>@]+")

@@ -4,9 +4,9 @@ import tempfile
 from dataclasses import dataclass, field
 from pathlib import Path
 
+from cueplayer_tools.line_protocol import Refused
 from cueplayer_tools.program import run
 from cueplayer_tools.record import words_of
-from cueplayer_tools.words import Refused
 
 LONGEST_SCRIPT = 16_777_216
 MOST_RECEIVERS = 8

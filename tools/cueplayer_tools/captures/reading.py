@@ -7,7 +7,7 @@ from typing import BinaryIO
 
 from cueplayer_tools.captures.frames import Datagram, datagram_in
 from cueplayer_tools.captures.writing import INTERFACE, MAGIC, PACKET, SECTION
-from cueplayer_tools.words import Refused
+from cueplayer_tools.line_protocol import Refused
 
 # The first four bytes of a pcap file, by its nanoseconds in a unit of its clock.
 _PCAP = {0xA1B2C3D4: 1000, 0xA1B23C4D: 1}

@@ -4,7 +4,7 @@ from dataclasses import dataclass
 
 from cueplayer_tools.conform.report import Finding, Result
 from cueplayer_tools.conform.verdicts import CHOICE, SEEN
-from cueplayer_tools.words import Refused
+from cueplayer_tools.line_protocol import Refused
 
 
 @dataclass(frozen=True)

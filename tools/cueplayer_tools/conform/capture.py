@@ -7,7 +7,7 @@ import time
 from collections.abc import Callable, Sequence
 from dataclasses import dataclass
 
-from cueplayer_tools.words import Refused
+from cueplayer_tools.line_protocol import Refused
 
 LONGEST = 2048
 # The system's names for what comes beside a datagram, which Python has not.

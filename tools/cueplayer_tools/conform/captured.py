@@ -5,14 +5,14 @@ from collections.abc import Callable
 from pathlib import Path
 
 from cueplayer_tools.addresses import Address
+from cueplayer_tools.captures.writing import Frame, capture_of
 from cueplayer_tools.conform.capture import Heard
 from cueplayer_tools.conform.diagnoses import slots_text
 from cueplayer_tools.conform.expected import Done
-from cueplayer_tools.captures.writing import Frame, capture_of
 from cueplayer_tools.conform.peers import PORT
 from cueplayer_tools.conform.script import Look
 from cueplayer_tools.conform.verdicts import Named, Played
-from cueplayer_tools.words import Refused
+from cueplayer_tools.line_protocol import Refused
 
 SUFFIX = ".pcapng"
 NOBODY = "0.0.0.0"

@@ -8,8 +8,8 @@ from typing import Any
 from cueplayer_tools.conform.hearing import Deaf
 from cueplayer_tools.conform.rounds import Tried
 from cueplayer_tools.conform.trial import Death, Sent
+from cueplayer_tools.line_protocol import Refused, count_of
 from cueplayer_tools.rehearsal import Slots
-from cueplayer_tools.words import Refused, count_of
 
 ENDED, IS_DEAF, DARK, STILL, STOPPED = "ended", "deaf", "nothing was ever shown", "still", "stopped"
 # Longer slots lines are cut for people.

@@ -8,9 +8,9 @@ from dataclasses import dataclass
 from pathlib import Path
 
 from cueplayer_tools.conform.script import Datagram, Look, Step
+from cueplayer_tools.line_protocol import Refused
 from cueplayer_tools.program import run
 from cueplayer_tools.rehearsal import Slots
-from cueplayer_tools.words import Refused
 
 # A rehearsal has a console; this one says nothing.
 HEADER = "console 1 100 c0ffee00-0000-4000-8000-00000000e131\n"

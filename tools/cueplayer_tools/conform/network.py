@@ -7,7 +7,7 @@ import subprocess
 import sys
 from pathlib import Path
 
-from cueplayer_tools.words import Refused
+from cueplayer_tools.line_protocol import Refused
 
 HERE, SECOND = "10.77.0.1", "10.77.0.2"
 # More groups than a machine joins unless it is told to.

@@ -5,7 +5,7 @@ from pathlib import Path
 
 from cueplayer_tools.conform.report import Result, RuleFound
 from cueplayer_tools.conform.verdicts import BROKEN, CHOICE, KEPT, NOT_TRIED, SEEN
-from cueplayer_tools.words import Refused
+from cueplayer_tools.line_protocol import Refused
 
 KINDS = ("receiver", "source")
 # The page without its results, which stand in place of comments.

@@ -12,9 +12,9 @@ from typing import Protocol
 from cueplayer_tools.addresses import Address
 from cueplayer_tools.conform.capture import group_of
 from cueplayer_tools.conform.expected import slots_of
+from cueplayer_tools.line_protocol import Refused, printable
 from cueplayer_tools.program import program, run
 from cueplayer_tools.rehearsal import Slots
-from cueplayer_tools.words import Refused, printable
 
 PORT = 5568
 # Sends each universe to its own multicast group, as in the words of the program.

@@ -10,7 +10,7 @@ from cueplayer_tools.conform.peers import Clock, NetworkFault, Peer, PeerFault
 from cueplayer_tools.conform.script import SETTLE, Rule
 from cueplayer_tools.conform.trial import REST, Death, Trial
 from cueplayer_tools.conform.verdicts import BROKEN, NOT_TRIED, Named, Played, Verdict, judge
-from cueplayer_tools.words import Refused
+from cueplayer_tools.line_protocol import Refused
 
 # A receiver that takes all as of one moment is not asked where time counts.
 TIMELESS = 1500

@@ -15,7 +15,7 @@ from cueplayer_tools.conform.streams import (
     two,
 )
 from cueplayer_tools.conform.verdicts import BROKEN, KEPT, NOT_TRIED, SEEN
-from cueplayer_tools.words import printable
+from cueplayer_tools.line_protocol import printable
 
 # In seconds. What listens is late by a little.
 KEEP_ALIVE, SLACK = 1.0, 0.05

@@ -9,7 +9,7 @@ from collections.abc import Callable
 from pathlib import Path
 
 from cueplayer_tools.conform.peers import PATIENCE, PeerFault
-from cueplayer_tools.words import Refused, printable
+from cueplayer_tools.line_protocol import Refused, printable
 
 
 def need(*tools: str, package: str) -> None:

@@ -6,10 +6,10 @@ from collections.abc import Iterator
 from dataclasses import replace
 
 from cueplayer_tools.addresses import Address
+from cueplayer_tools.captures.writing import Frame, capture_of
 from cueplayer_tools.conform.capture import group_of
 from cueplayer_tools.conform.diagnoses import slots_text
 from cueplayer_tools.conform.expected import HEADER, answers, slots_of
-from cueplayer_tools.captures.writing import Frame, capture_of
 from cueplayer_tools.conform.peers import PORT
 from cueplayer_tools.conform.rules import RULES
 from cueplayer_tools.conform.script import PLAIN, SETTLE, Case, Datagram, Look, Rule, Step

@@ -11,8 +11,13 @@ import time
 from cueplayer_tools.keeper.commands import ask
 from cueplayer_tools.keeper.folder import Folder
 from cueplayer_tools.keeper.own_record import FULL
-from cueplayer_tools.keeper.players import find_keeper, find_live, find_spare
-from cueplayer_tools.keeper.players import has_record_open, reads_record
+from cueplayer_tools.keeper.players import (
+    find_keeper,
+    find_live,
+    find_spare,
+    has_record_open,
+    reads_record,
+)
 from cueplayer_tools.keeper.stand_still import work_of
 from cueplayer_tools.keeper.states import state_of
 from cueplayer_tools.keeper.troubles import (

@@ -6,8 +6,8 @@ from collections.abc import Iterable
 from cueplayer_tools.cue_list import Show, read_show
 from cueplayer_tools.keeper.folder import Folder
 from cueplayer_tools.keeper.show_copy import is_of_record
+from cueplayer_tools.line_protocol import Refused, cue_word, thousandths_of
 from cueplayer_tools.record import Given, given_in, words_of
-from cueplayer_tools.words import Refused, cue_word, thousandths_of
 
 # What may be a move, or the end of follow-ons; the ticks between them are too many to be read.
 _MOVE = re.compile(rb"(?mi)^[ \t,]*\d{1,15}[ \t,]+(?:go|back|goto|end)\b[^\n]*\n")

@@ -14,7 +14,7 @@ from cueplayer_tools.keeper.folder import Folder, whole_path
 from cueplayer_tools.keeper.last_cue import find_cue
 from cueplayer_tools.keeper.show_copy import BEGIN, COPY, NEXT, find_show, put_file, read_show_file
 from cueplayer_tools.keeper.streams import Failure, reason, refusal, show_line
-from cueplayer_tools.words import Refused, cue_word
+from cueplayer_tools.line_protocol import Refused, cue_word
 
 _UNCHANGED = "nothing was changed"
 

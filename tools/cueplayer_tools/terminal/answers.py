@@ -4,6 +4,15 @@ from collections import deque
 from collections.abc import Iterator
 
 from cueplayer_tools.cue_list import Cue, Rate, Show
+from cueplayer_tools.line_protocol import (
+    MOVES,
+    Refused,
+    command_line,
+    cue_word,
+    level_byte,
+    milliseconds_of,
+    time_word,
+)
 from cueplayer_tools.live_lines import (
     FULL,
     Answer,
@@ -12,15 +21,6 @@ from cueplayer_tools.live_lines import (
     Move,
     Place,
     read_live_line,
-)
-from cueplayer_tools.words import (
-    MOVES,
-    Refused,
-    command_line,
-    cue_word,
-    level_byte,
-    milliseconds_of,
-    time_word,
 )
 
 

@@ -10,12 +10,12 @@ from collections.abc import Callable, Iterator
 from typing import IO, NoReturn
 
 from cueplayer_tools.cue_list import Show, read_show
+from cueplayer_tools.line_protocol import Refused
 from cueplayer_tools.program import program
 from cueplayer_tools.terminal.answers import Answers
 from cueplayer_tools.terminal.editor import EndOfInput, LineEditor
 from cueplayer_tools.terminal.phrases import HELP, live_line
 from cueplayer_tools.terminal.screen import Screen
-from cueplayer_tools.words import Refused
 
 INPUT, OUTPUT, ERROR = 0, 1, 2
 # The options of `live` that take no value.

@@ -1,0 +1,1 @@
+"""Exports of other consoles become shows: `tools/convert`."""

@@ -1,0 +1,1 @@
+"""Reading the exports of other consoles, whatever their makers write."""

@@ -1,0 +1,1 @@
+"""MIDI Show Control, and notes, as commands of a night."""

@@ -1,0 +1,1 @@
+"""A night by Open Sound Control: `tools/osc`."""

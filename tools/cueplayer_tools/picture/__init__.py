@@ -1,0 +1,1 @@
+"""Pictures of nights and rehearsals: `tools/picture`."""

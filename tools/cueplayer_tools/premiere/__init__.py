@@ -1,0 +1,1 @@
+"""A first night, from a show to the light: `tools/premiere`."""

@@ -1,0 +1,1 @@
+"""The cue sheet of a show, to be printed: `tools/sheet`."""

@@ -1,0 +1,1 @@
+"""Who sends what, by the proved receiver: `tools/watch`."""
