@@ -20,7 +20,7 @@ from desk_browser import SIZES, resize  # noqa: E402
 from desks import Page  # noqa: E402
 from pictures import Darkroom, Taken, keep  # noqa: E402
 from program import TOP, text  # noqa: E402
-from test_desk_doors import DoorTest  # noqa: E402
+from doors import DoorTest  # noqa: E402
 from tooling import stand_still  # noqa: E402
 
 # What the page of this machine shows, each view in its colours.

@@ -1,6 +1,5 @@
 """What the tests of nights in folders share: one that `cueplayer-night` keeps, and its parts."""
 
-import functools
 import os
 import re
 import signal
@@ -10,7 +9,7 @@ import uuid
 from pathlib import Path
 
 from machine import Late
-from program import PROGRAM, TOP, Outcome, run, text
+from program import PROGRAM, TOP, Outcome, text
 from tooling import PATIENCE, Lines, wait_for
 from wire import SEQUENCE, SLOT_1, ReceiverTest
 
@@ -31,12 +30,6 @@ SHOW = text(
     "CHAN 1@FL",
     "PATCH 1 1<1@FL",
 )
-
-
-@functools.cache
-def resumes():
-    """Whether the program goes on with a record."""
-    return b"--resume" in run("live", "--help").out
 
 
 class Keeper:

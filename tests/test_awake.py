@@ -7,8 +7,8 @@ import subprocess
 import unittest
 from pathlib import Path
 
+from live_outputs import OutputsTest
 from program import PROGRAM, TOP
-from test_outputs import OutputsTest
 from tooling import wait_for
 
 ALL, IDLE = "sleep:idle:handle-lid-switch", "idle"

@@ -5,10 +5,10 @@ import subprocess
 import time
 from typing import NamedTuple
 
+from crate_programs import built_programs, program_of
+from growths import COMMANDS, MOVING_SHOW, every_line
 from preload import COMPILER, PreloadTest
 from program import PROGRAM, TO_NOBODY, text
-from test_crate_growths import built_programs, program_of
-from test_refused_growths import COMMANDS, MOVING_SHOW, every_line
 
 READ, WRITE = 0, 1
 # How many reads and writes a run may note.

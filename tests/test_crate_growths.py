@@ -8,7 +8,6 @@ in a fresh clone, its tests are left out; under GATE, which `.ci/run` sets, that
 """
 
 import functools
-import os
 import re
 import resource
 import signal
@@ -16,9 +15,9 @@ import subprocess
 import sys
 from typing import NamedTuple
 
-import test_refused_growths
+from crate_programs import built_programs, program_of
+from growths import Growths
 from program import TOP
-from test_refused_growths import Growths
 
 sys.path.insert(0, str(TOP / "dev"))
 
@@ -126,21 +125,6 @@ ABORTED, ANSWERED = -signal.SIGABRT, 101
 WANT_OF_MEMORY = re.compile(r"[Ee]rror: (AllocError|AllocFailed|Memory)\b")
 
 
-def program_of(place):
-    crate = place.partition("::")[0]
-    return TOP / f"crates/{crate}/out/{crate}_tests"
-
-
-def built_programs(test, places):
-    """Those of the modules whose test program is there; where none is, the test is skipped."""
-    built = [place for place in places if program_of(place).is_file()]
-    if "GATE" in os.environ:
-        test.assertEqual(list(places), built)
-    elif not built:
-        test.skipTest("no test program of a crate was built")
-    return built
-
-
 def module_of(place):
     return "tests::" + place.partition("::")[2]
 
@@ -214,8 +198,9 @@ class CrateGrowths(Growths):
             for test in tested.tests:
                 with self.subTest(place, test=test):
                     self.assertIn(f"fn {test.rpartition('::')[2]}(rt: ", text)
+        (module,) = (TOP / "tests").rglob("test_refused_growths.py")
         for test in IN_THE_PROGRAM.values():
-            self.assertTrue(hasattr(test_refused_growths.RefusedGrowths, test))
+            self.assertIn(f"    def {test}(self", module.read_text())
 
     def test_growths(self):
         """Each allocation of a call is refused in turn: the call answers that, and its test

@@ -7,10 +7,10 @@ import unittest
 
 import inputs
 from expected import live, show as shows
+from live_nights import LiveTest
 from machine import in_time, took
 from nights import Typed, expected_lines, play_nights
 from program import text
-from test_live import LiveTest
 from worked import S1
 
 NIGHTS, SEED = 500, 40

@@ -19,8 +19,8 @@ from unittest import mock
 from bad_night import children
 from desks import NO_WATCH, SHOW, DeskTest, Page, watches
 from machine import in_time, took
+from osc_messages import GREATEST_DOUBLE, message
 from program import CID, behind_head, packet, text
-from test_osc import GREATEST_DOUBLE, message
 from tooling import PATIENCE, TOOLS, Started, run_tool, wait_for
 from wire import OPTIONS, TERMINATED, free_port, own_network
 

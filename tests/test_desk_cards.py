@@ -3,18 +3,17 @@ hear, and what they show of a cable that is out."""
 
 import socket
 import subprocess
-import sys
 import uuid
 
+from desk_cards import MULTICAST, DeskCardsTest
 from desks import SHOW, Page, watches
+from doors import Door
 from folders import NIGHT
-from networks import EVERYDAY, LIT, OFFICE, PORT, STAGE, NetworkTest, Venue
-from program import CID, FolderTest, packet
-from test_desk_doors import Door
-from test_osc import message
-from tooling import PATIENCE, TOOLS, Lines, wait_for
+from networks import EVERYDAY, LIT, OFFICE, PORT, STAGE, Venue
+from osc_messages import message
+from program import CID, packet
+from tooling import PATIENCE, wait_for
 
-MULTICAST = "239.255.0.0"
 NO_LINK = "no link lit: nodes get nothing; check the cable"
 ALONE = "they are sent to one receiver alone"
 
@@ -36,36 +35,6 @@ def send(node):
         other.bind((node.address, 0))
         sent = packet(1, {}, cid=CID, name=f"at {node.address}")
         other.sendto(sent, ("239.255.0.1", PORT))
-
-
-class DeskCardsTest(NetworkTest, FolderTest):
-    SHOW = SHOW
-
-    def begin_desk(self, kept, venue, *words):
-        """A desk on the console's machine: its lines on both outputs."""
-        desk = subprocess.Popen(
-            venue.console.words(sys.executable, TOOLS / "desk", *words),
-            text=True,
-            stdout=subprocess.PIPE,
-            stderr=subprocess.PIPE,
-        )
-        kept.callback(desk.wait, PATIENCE)
-        kept.callback(desk.terminate)
-        return Lines(desk.stdout), Lines(desk.stderr)
-
-    def open_desk(self, kept, venue, *words):
-        """The open page of a desk there, and what the desk tells."""
-        out, told = self.begin_desk(kept, venue, *words)
-        address = out.next().removeprefix("desk: ")
-        page = venue.console.within(lambda: Page(self, address))
-        page.wait(placed=True)
-        return page, told
-
-    def assertShows(self, page, trouble):
-        """The page shows this alone behind its moment, and so until it is over; that trouble."""
-        (shown,) = wait_for(lambda: page.state.get("troubles"), trouble)
-        self.assertRegex(shown["text"], rf"^\d+:\d\d:\d\d {trouble}$")
-        return shown
 
 
 class DeskCards(DeskCardsTest):

@@ -7,8 +7,8 @@ from unittest import mock
 from browser import CHROMIUM, MISSING
 from desk_browser import DeskBrowserTest, cue_button, part, resize, view
 from desks import NO_WATCH, DeskTest, watches
+from doors import DoorTest
 from program import text
-from test_desk_doors import DoorTest
 from tooling import wait_for
 
 from cueplayer_tools.cue_list import read_show

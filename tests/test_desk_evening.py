@@ -6,11 +6,11 @@ import uuid
 from contextlib import ExitStack
 
 from browser import CHROMIUM, MISSING, Browser
+from desk_cards import MULTICAST, DeskCardsTest
 from desk_pictures import SMALL_PLAY
+from doors import Door
 from networks import LIT, Venue
 from program import LIVE_NAME
-from test_desk_cards import MULTICAST, DeskCardsTest
-from test_desk_doors import Door
 from tooling import wait_for
 
 # A tablet, held upright.

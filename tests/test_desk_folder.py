@@ -5,33 +5,17 @@ import re
 import signal
 import socket
 import time
-import unittest
 
-from desks import Page
-from folders import FolderNightTest, resumes
-from test_osc import GO, message
+from desk_folders import DeskFolderTest
+from folders import FolderNightTest
+from osc_messages import GO, message
 from tooling import PATIENCE, Started, run_tool, stand_still, wait_for
 
 from cueplayer_tools.line_protocol import Refused
 from cueplayer_tools.night_folder import NightFolder
 
-NO_RESUME = "the program does not know --resume"
 
 
-class DeskFolderTest(FolderNightTest):
-    def desk(self, *options):
-        """A desk that has taken hold of the night, and an open page of it."""
-        desk = Started(self, "desk", "--night", self.night, *options)
-        line = desk.out.next()
-        self.assertRegex(line or "", r"^desk: http://127\.0\.0\.1:\d+/[\w-]{32}/$")
-        told = f"desk: console {self.cid}, live is process {self.number('pid')}"
-        self.assertEqual(told, desk.err.next())
-        page = Page(self, line.removeprefix("desk: "))
-        page.wait(placed=True)
-        return desk, page
-
-
-@unittest.skipUnless(resumes(), NO_RESUME)
 class Desk(DeskFolderTest):
     def test_takes_hold(self):
         """It shows where the night is, and plays it; what shells do meanwhile is shown too."""
@@ -202,7 +186,6 @@ class Desk(DeskFolderTest):
         self.assertIn(f"no live plays the night in {self.night}", done.stderr)
 
 
-@unittest.skipUnless(resumes(), NO_RESUME)
 class Osc(DeskFolderTest):
     def osc(self):
         """The tool, and a function that sends to it."""

@@ -4,10 +4,9 @@ import os
 import unittest
 from pathlib import Path
 
-from folders import resumes
+from desk_folders import DeskFolderTest
+from doors import Door, DoorTest
 from program import FolderTest
-from test_desk_doors import Door, DoorTest
-from test_desk_folder import NO_RESUME, DeskFolderTest
 from tooling import PATIENCE, run_tool, wait_for
 
 from cueplayer_tools.desk.pin_file import PinFile, pin_file
@@ -120,7 +119,6 @@ class File(FolderTest):
         self.assertEqual(state / "cueplayer/desk-9000.pins", pin_file(None, 9000))
 
 
-@unittest.skipUnless(resumes(), NO_RESUME)
 class OfNight(DeskFolderTest):
     def test_beside_the_night(self):
         """Whoever takes hold of the night again has its PINs."""

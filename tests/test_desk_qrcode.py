@@ -11,7 +11,7 @@ import unittest
 
 from browser import CHROMIUM, MISSING, Browser
 from desks import Page
-from test_desk_doors import DoorTest
+from doors import DoorTest
 from tooling import TOOLS, wait_for
 from wire import terminal
 

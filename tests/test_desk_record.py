@@ -12,9 +12,7 @@ from pathlib import Path
 from unittest import mock
 
 from desks import SHOW, DeskTest, Page
-from folders import resumes
 from program import FolderTest, behind_head
-from test_desk_folder import NO_RESUME
 from tooling import PATIENCE, TOOLS, Lines, Started, run_tool, wait_for
 from wire import OPTIONS, TERMINATED, terminal
 
@@ -100,7 +98,6 @@ class Kept(RecordTest):
             self.assertIn(f"leave out {word[2:]}", done.stderr)
 
 
-@unittest.skipUnless(resumes(), NO_RESUME)
 class BrokenOff(RecordTest):
     def begin(self, *options, to=None):
         """Each desk of a test has one CID, as one that is kept."""

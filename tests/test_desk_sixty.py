@@ -13,11 +13,11 @@ import uuid
 from contextlib import ExitStack
 
 from browser import CHROMIUM, MISSING, Browser
+from desk_cards import MULTICAST, DeskCardsTest
+from doors import Door
 from folders import NIGHT
 from networks import EVERYDAY, LIT, PORT, Venue
 from program import packet, text
-from test_desk_cards import MULTICAST, DeskCardsTest
-from test_desk_doors import Door
 from tooling import PATIENCE, wait_for
 
 SIXTY = 60

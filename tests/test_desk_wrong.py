@@ -7,10 +7,9 @@ import time
 import unittest
 
 from browser import CHROMIUM, MISSING, Browser
+from desk_folders import DeskFolderTest
 from desks import NO_WATCH, DeskTest, Page, watches
-from folders import resumes
 from program import CID, packet
-from test_desk_folder import NO_RESUME, DeskFolderTest
 from tooling import wait_for
 from wire import address_of, receiver_socket
 
@@ -44,7 +43,6 @@ class Record(DeskTest):
         self.assertEqual(1, len(page.wait(current="1.5")["troubles"]))
 
 
-@unittest.skipUnless(resumes(), NO_RESUME)
 class BrokenOff(DeskTest):
     """`live` is killed under a desk with a record: a button takes the night up."""
 
@@ -101,7 +99,6 @@ class BrokenOff(DeskTest):
         page.wait(status=0, resumes=False)
 
 
-@unittest.skipUnless(resumes(), NO_RESUME)
 class BrokenOffFolder(DeskFolderTest):
     """All processes of a folder's night are killed: the desk goes on with it."""
 
@@ -156,7 +153,6 @@ class Shown(DeskTest):
         page.wait("document.getElementById('alarms').innerText === ''")
         self.assertEqual([], browser.faults)
 
-    @unittest.skipUnless(resumes(), NO_RESUME)
     def test_button(self):
         """A night that was broken off has a button that takes it up."""
         desk, address = self.begin("--record", self.folder / "night.play")

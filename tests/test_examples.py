@@ -4,14 +4,10 @@ import re
 import socket
 import unittest
 
+from documents import blocks
 from program import CID, TOP, ProgramTest, counts, packet, run, text
 from wire import address_of
 from worked import NAMES
-
-
-def blocks(document):
-    """The fenced blocks of a document, in order."""
-    return re.findall(r"^```\n(.*?)^```$", (TOP / document).read_text(), re.MULTILINE | re.DOTALL)
 
 
 class Examples(ProgramTest):

@@ -7,7 +7,9 @@ import subprocess
 import sys
 
 from expected import runs, watch as watches
-from preload import PreloadTest
+from failing_calls import FailingCalls
+from listeners import DATAGRAMS, THREE, Listener
+from live_nights import without_moments
 from program import (
     CID,
     DEVICE_FAULT,
@@ -20,10 +22,8 @@ from program import (
     run,
     text,
 )
-from test_listen import DATAGRAMS, THREE, Listener
-from test_live import without_moments
-from test_refused_lines import NUMBERED, UNKNOWN
-from wire import OPTIONS, SEQUENCE, TERMINATED, ReceiverTest, own_network
+from refusals import NUMBERED, UNKNOWN
+from wire import OPTIONS, SEQUENCE, TERMINATED, own_network
 from worked import HEADER, LOOK_ONE, S1, keep_alive, look_one, plays, rehearsals
 
 NETWORK_ERRORS = (errno.EAGAIN, errno.ECONNREFUSED, errno.ENETUNREACH, errno.ENOBUFS, errno.EPERM)
@@ -35,25 +35,6 @@ KEPT_ALIVE = keep_alive()
 LOOK = look_one()
 (REHEARSED,) = rehearsals("rehearse_basic")
 TICKS = KEPT_ALIVE.stdin.decode().splitlines()
-
-
-class FailingCalls(ReceiverTest, PreloadTest):
-    SHOW, SOURCE = S1, "fail.c"
-
-    def environment(self, *failures):
-        """`failures`: a call's name, the first and the last of its calls that fail, and the
-        error."""
-        words = " ".join(f"{call} {first} {last} {error}" for call, first, last, error in failures)
-        return self.library_environment(FAILS=words)
-
-    def run_failing(self, words, stdin, *failures):
-        """How a run ends; its input is a file."""
-        return self.run_preloaded(words, stdin, self.environment(*failures))
-
-    def plays(self, lines, *failures):
-        """How `play` ends, and what came of its packets."""
-        words = ["play", self.show, "--to", self.to, "--cid", CID]
-        return self.run_failing(words, text(*lines), *failures), self.came()
 
 
 class Play(FailingCalls):

@@ -4,8 +4,8 @@ import os
 import signal
 import time
 
+from live_nights import LiveTest, without_moments
 from program import PROGRAM, TOP
-from test_live import LiveTest, without_moments
 from wire import SLOT_1, terminal
 
 CONTROL_C = b"\x03"

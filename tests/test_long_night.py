@@ -15,9 +15,9 @@ import subprocess
 import threading
 import time
 
+from live_nights import LiveTest
 from machine import in_time, took
 from program import LIVE_NAME, PROGRAM, behind_head, text
-from test_live import LiveTest
 from wire import OPTIONS, SEQUENCE
 
 SECONDS = float(os.environ.get("CUEPLAYER_NIGHT", 120))

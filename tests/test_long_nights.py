@@ -6,16 +6,13 @@ import subprocess
 import sys
 import unittest
 
-from folders import resumes
 from long_nights import DISK_TURNED, SKIPPED
 from machine import Late
 from program import TOP
 
 TIMES, NEVER = 10, 600
-NO_RESUME = "the program does not know --resume"
 
 
-@unittest.skipUnless(resumes(), NO_RESUME)
 class LongNights(unittest.TestCase):
     def test_ten_kills_and_stops(self):
         """Each packet is what the record means, none is lost but at a kill, and the longest gap is

@@ -7,13 +7,11 @@ import signal
 import subprocess
 import threading
 import time
-import unittest
 
-from folders import NIGHT, FolderNightTest, resumes
+from folders import NIGHT, FolderNightTest
 from tooling import PATIENCE, run_tool, stand_still, wait_for
 from wire import SEQUENCE, terminal
 
-NO_RESUME = "the program does not know --resume"
 # Stands for the program: begins a record, says that it began, and ends with the status in a file,
 # whose lines are for one start each, the last for all that follow.
 STUB = """#!/bin/sh
@@ -31,7 +29,6 @@ GO_ON = "it is started again, and goes on where it was"
 SPARE_GOES_ON = r"the spare \(process (\d+)\) goes on where it was"
 
 
-@unittest.skipUnless(resumes(), NO_RESUME)
 class Goes(FolderNightTest):
     def test_folder(self):
         """What is in it, and the words of `live`, with the whole path of the show."""
@@ -417,7 +414,6 @@ class Goes(FolderNightTest):
         self.wait_for_level(0x92)
 
 
-@unittest.skipUnless(resumes(), NO_RESUME)
 class ByChance(FolderNightTest):
     """Whatever is killed while commands come: each that was accepted is carried out once, and the
     stream goes on."""

@@ -8,20 +8,17 @@ import shutil
 import signal
 import threading
 import time
-import unittest
 from pathlib import Path
 
-from folders import resumes
+from kept_nights import RefusedTest
 from machine import Late
 from restarts import moments
-from test_night_refused import RefusedTest
 from tooling import stand_still, wait_for
 from wire import SEQUENCE, SLOT_1
 
 from cueplayer_tools.keeper.pipes import RECORD, REPLIES
 from cueplayer_tools.keeper.writers import RESERVE
 
-NO_RESUME = "the program does not know --resume"
 # Of so many deaths a stranger has the lock first behind one.
 TRIES = 6
 # How long a spare would take to go on, and more.
@@ -70,7 +67,6 @@ class RecordTest(RefusedTest):
         self.assertFalse(self.is_there(self.number("spare")))
 
 
-@unittest.skipUnless(resumes(), NO_RESUME)
 class Writers(RecordTest):
     def test_ends(self):
         """Another one goes on with it, and no line is missing."""
@@ -116,7 +112,6 @@ class Writers(RecordTest):
         self.assertGoesOn(51)
 
 
-@unittest.skipUnless(resumes(), NO_RESUME)
 class Room(RecordTest):
     def test_is_kept(self):
         """Behind the end of the record there is some for a disk that is full, up to the end."""
@@ -191,7 +186,6 @@ class Room(RecordTest):
         self.assertEqual((0, ["where cue 3 master 255"]), self.without_moments("where"))
 
 
-@unittest.skipUnless(resumes(), NO_RESUME)
 class Name(RecordTest):
     def wait_for_name(self, node):
         wait_for(lambda: (self.night / "record").exists() and
@@ -288,7 +282,6 @@ class Name(RecordTest):
         self.wait_for_status(0)
 
 
-@unittest.skipUnless(resumes(), NO_RESUME)
 class Strangers(RecordTest):
     def wait_in_lock(self, record):
         """Waits in a thread for the lock of the record, and keeps it."""

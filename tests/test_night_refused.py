@@ -1,26 +1,19 @@
 """`cueplayer-night` where a night cannot go on: it is tried again, and told once; or it begins anew
 in the cue in which it was."""
 
-import contextlib
-import ctypes
-import json
 import os
 import signal
 import time
 import unittest
-from pathlib import Path
 
-from folders import FolderNightTest, resumes
+from kept_nights import RefusedTest
 from program import text
 from restarts import head
 from tooling import wait_for
 
 from cueplayer_tools.cue_list import Cue, Show
 from cueplayer_tools.keeper.last_cue import cue_at_end
-from cueplayer_tools.keeper.pipes import RECORD
-from cueplayer_tools.keeper.states import state_of
 
-NO_RESUME = "the program does not know --resume"
 AGAIN = "live refused to begin, with status 4: the lines above say why; tried again each second"
 FOLLOWED = text(
     "CUE 1", "CHAN 1@50", "CUE 2", "FOLLOWON 1", "CHAN 1@FL", "CUE 3", "CHAN 1@20",
@@ -28,76 +21,6 @@ FOLLOWED = text(
 )  # fmt: skip
 
 
-class Held:
-    """A process that is held as by a debugger. It goes on where the one that holds it ends."""
-
-    SEIZE, INTERRUPT, DETACH = 0x4206, 0x4207, 17
-
-    def __init__(self, number):
-        self.number, self.trace = number, ctypes.CDLL(None, use_errno=True).ptrace
-        self.trace.argtypes = [ctypes.c_long, ctypes.c_long, ctypes.c_void_p, ctypes.c_void_p]
-        if self.trace(self.SEIZE, number, None, None):
-            raise unittest.SkipTest(f"no ptrace here: {os.strerror(ctypes.get_errno())}")
-        self.trace(self.INTERRUPT, number, None, None)
-        wait_for(lambda: state_of(number) == "t", "it stands still")
-
-    def release(self):
-        self.trace(self.DETACH, self.number, None, None)
-
-
-class RefusedTest(FolderNightTest):
-    def kill_all(self):
-        super().kill_all()
-        wait_for(lambda: not self.is_there(self.number("pid")), "live is gone")
-
-    def health(self):
-        """What `status --json` prints, whose status is that of its exit."""
-        status, out, err = self.run_script("status", "--json")
-        self.assertEqual(("", 1), (err, out.count("\n")))
-        told = json.loads(out)
-        self.assertEqual(status, told["status"])
-        return told
-
-    def wait_for_status(self, status):
-        return wait_for(lambda: (told := self.health())["status"] == status and told, str(status))
-
-    def go(self, *cues):
-        for cue in cues:
-            self.assertEqual((0, ["ok", f"cue {cue}"]), self.without_moments("go"))
-
-    def wait_for_tries(self, times):
-        """Waits until `live` was started so many times more; the numbers of the processes."""
-        seen = set()
-
-        def are_there():
-            with contextlib.suppress(OSError, ValueError):
-                seen.add(int((self.night / "pid").read_text()))
-            return len(seen) > times
-
-        wait_for(are_there, f"{times} starts")
-        return seen
-
-    def go_on(self, number):
-        with contextlib.suppress(ProcessLookupError):
-            os.kill(number, signal.SIGCONT)
-
-    def writer(self, pipe=RECORD):
-        """The process that writes what `live` gives into this pipe."""
-        place = f"/proc/{self.number('pid')}/fd/{pipe}"
-        for each in Path("/proc").glob("[0-9]*/fd/0"):
-            with contextlib.suppress(OSError):
-                if os.path.samefile(each, place):
-                    return int(each.parts[2])
-        return self.fail("no writer")
-
-    def stall(self, writer):
-        """Has it stand still as behind a disk, not as a signal does it; a call lets it go on."""
-        held = Held(writer)
-        self.addCleanup(held.release)
-        return held.release
-
-
-@unittest.skipUnless(resumes(), NO_RESUME)
 class Refused(RefusedTest):
     def damage(self, line=b"garbage\n"):
         """A line in the record that no night gives; the record as it was."""
@@ -165,7 +88,6 @@ class Refused(RefusedTest):
         self.assertEqual(spare, self.number("pid"))
 
 
-@unittest.skipUnless(resumes(), NO_RESUME)
 class Anew(RefusedTest):
     SHOW = FOLLOWED
 

@@ -9,15 +9,12 @@ import signal
 import socket
 import threading
 import time
-import unittest
 import uuid
 from pathlib import Path
 
-from folders import resumes
-from test_night_refused import RefusedTest
+from kept_nights import RefusedTest
 from tooling import PATIENCE, wait_for
 
-NO_RESUME = "the program does not know --resume"
 # Between two ticks that are told of at most, in microseconds; it is told four times as often.
 PERIOD = 1_000_000
 # Stands for the program: it says that it plays, and makes no tick.
@@ -31,7 +28,6 @@ exec sleep 60
 """
 
 
-@unittest.skipUnless(resumes(), NO_RESUME)
 class Service(RefusedTest):
     def setUp(self):
         super().setUp()

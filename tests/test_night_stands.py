@@ -4,15 +4,12 @@ import contextlib
 import os
 import signal
 import time
-import unittest
 
-from folders import resumes
+from kept_nights import RefusedTest
 from machine import Late, in_time, took
-from test_night_refused import RefusedTest
 from tooling import stand_still, wait_for
 from wire import SEQUENCE, SLOT_1
 
-NO_RESUME = "the program does not know --resume"
 # For how long receivers hold the light, in milliseconds.
 HELD = 2500
 # By when, in seconds, a `live` that stands still is not ended yet.
@@ -20,7 +17,6 @@ SOON = 0.4
 STANDS = r"live \(process {}\) stands still: it is ended, so that the night goes on$"
 
 
-@unittest.skipUnless(resumes(), NO_RESUME)
 class Stands(RefusedTest):
     def begin_in_cue_1(self):
         """A night in its first cue, with a spare: the numbers of `live`, the spare and the

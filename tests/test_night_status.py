@@ -6,15 +6,13 @@ import re
 import signal
 import unittest
 
-from folders import resumes
+from kept_nights import RefusedTest
 from program import TOP
-from test_night_refused import RefusedTest
 from tooling import stand_still, wait_for
 
 from cueplayer_tools.keeper.health import STATUSES
 from cueplayer_tools.keeper.troubles import Story
 
-NO_RESUME = "the program does not know --resume"
 AT = "night: 2026-11-30 20:15:07 "
 SINCE = "2026-11-30 20:15:07"
 START = ("show: 3 cues, 1 submaster, 0 groups, 1 dimmer", "end ends the night, leave leaves")
@@ -83,7 +81,6 @@ class Told(unittest.TestCase):
         self.assertIsNone(self.story("8000 live 1:s7 2:-").lost)
 
 
-@unittest.skipUnless(resumes(), NO_RESUME)
 class Status(RefusedTest):
     def begin_well(self):
         self.begin_night()

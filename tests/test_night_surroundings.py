@@ -11,10 +11,9 @@ import unittest
 from concurrent.futures import ThreadPoolExecutor
 from pathlib import Path
 
-from folders import NIGHT, FolderNightTest, resumes
+from folders import NIGHT, FolderNightTest
 from tooling import PATIENCE, wait_for
 
-NO_RESUME = "the program does not know --resume"
 COMMA = "de_DE.UTF-8"
 # How many commands come, and how many of them at once: of a clock that is read wrong at some
 # moments one would tell.
@@ -96,7 +95,6 @@ class SurroundingsTest(FolderNightTest):
         self.assertEqual(0, self.run_script("halt").status)
 
 
-@unittest.skipUnless(resumes(), NO_RESUME)
 class Settings(SurroundingsTest):
     """Locales, options of shells and of Python, tools that are missing, and closed streams."""
 
@@ -213,7 +211,6 @@ class Files(SurroundingsTest):
         self.assertEqual(-signal.SIGINT, watch.wait(PATIENCE))
 
 
-@unittest.skipUnless(resumes(), NO_RESUME)
 class Deaths(SurroundingsTest):
     def test_three_in_a_minute(self):
         """The spares that are started do not count among the restarts: none is held up."""

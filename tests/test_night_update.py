@@ -1,9 +1,8 @@
 """`cueplayer-night NIGHT update SHOW`: another show for a night that has begun."""
 
 import time
-import unittest
 
-from folders import SHOW, FolderNightTest, resumes
+from folders import SHOW, FolderNightTest
 from machine import by_clock, in_time
 from program import FolderTest, text
 from restarts import head
@@ -13,7 +12,6 @@ from wire import SLOT_1
 from cueplayer_tools.keeper.folder import Folder
 from cueplayer_tools.keeper.show_copy import begin_cue, find_show
 
-NO_RESUME = "the program does not know --resume"
 # Cue 1 is at another level than in the show of the night, and there is no cue 2.
 NEW = text("CUE 1", "CHAN 1@20", "CUE 3", "CHAN 1@60", "PATCH 1 1<1@FL")
 # For how long receivers hold the light.
@@ -46,7 +44,6 @@ class Copy(FolderTest):
         self.assertEqual(NEW, copy.read_bytes())
 
 
-@unittest.skipUnless(resumes(), NO_RESUME)
 class Update(FolderNightTest):
     def setUp(self):
         super().setUp()

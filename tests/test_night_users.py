@@ -4,18 +4,15 @@ what they could not know."""
 import os
 import stat
 import subprocess
-import unittest
 
-from folders import NIGHT, FolderNightTest, resumes
+from folders import NIGHT, FolderNightTest
 from tooling import PATIENCE, wait_for
 
-NO_RESUME = "the program does not know --resume"
 NOBODY = 65_534
 # Of a folder that another user left open, the mode and those of its files.
 OPEN_FOLDER, OPEN_FILE = 0o755, 0o644
 
 
-@unittest.skipUnless(resumes(), NO_RESUME)
 class Users(FolderNightTest):
     def modes(self):
         paths = [self.night, *self.night.iterdir()]

@@ -8,6 +8,7 @@ import subprocess
 import sys
 from pathlib import Path
 
+from listeners import Listener, is_bound
 from preload import PreloadTest
 from program import (
     CID,
@@ -22,7 +23,6 @@ from program import (
     text,
 )
 from restarts import wait_until
-from test_listen import Listener, is_bound
 from wire import address_of, datagrams_at, free_port, receiver_socket
 from worked import S1, above, listen_example, plays, rehearsals, tables, with_examples
 

@@ -19,6 +19,7 @@ import unittest
 from unittest import mock
 
 from machine import Late, in_time, took
+from osc_messages import GO, GREATEST_DOUBLE, message, pad
 from program import CID, PROGRAM, ProgramTest
 from tooling import PATIENCE, TOOLS, Started, run_tool, stand_still, wait_for
 from wire import SLOT_1, address_of, datagrams_at, receiver_socket
@@ -31,33 +32,11 @@ from cueplayer_tools.osc.lines import lines_of
 from cueplayer_tools.osc.port import OscPort
 
 
-def pad(text):
-    """An OSC string: one to four zero bytes behind it."""
-    return text + bytes(4 - len(text) % 4)
-
-
-def message(address, *arguments, tags=None):
-    """An OSC message, by the types of its arguments."""
-    forms = {int: "i", float: "f", str: "s", bool: "?"}
-    letters = "".join(forms[type(each)] for each in arguments)
-    data = b""
-    for letter, value in zip(letters, arguments):
-        if letter == "s":
-            data += pad(value.encode())
-        elif letter in "if":
-            data += struct.pack(">" + letter, value)
-    letters = letters.replace("?", "T" if True in arguments else "F")
-    return pad(address.encode()) + pad(b"," + (tags or letters).encode()) + data
-
-
 def bundle(*elements):
     """An OSC bundle, to be carried out at once."""
     sized = (len(each).to_bytes(4, "big") + each for each in elements)
     return b"#bundle\0" + bytes(7) + b"\1" + b"".join(sized)
 
-
-GO = message("/cueplayer/go")
-GREATEST_DOUBLE = message("/cueplayer/goto", tags="d") + struct.pack(">d", 1e308)
 
 ASKED = (
     (GO, "go"),

@@ -7,7 +7,7 @@ import unittest
 from unittest import mock
 
 from desks import SHOW, DeskTest
-from test_osc import message, pad
+from osc_messages import message, pad
 from tooling import wait_for
 
 from cueplayer_tools.cue_list import Cue, Show

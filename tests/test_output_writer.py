@@ -9,10 +9,10 @@ import signal
 import subprocess
 import time
 
+from live_nights import without_moments
 from program import PROGRAM, messages_in
-from test_live import without_moments
-from test_record_writer import NEVER, WriterTest
 from tooling import stand_still
+from writers import NEVER, WriterTest
 
 BEFORE = b"what stood there\n"
 STILL = rb"outputs: (\d+) bytes are still with their writers\n"

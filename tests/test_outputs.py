@@ -9,14 +9,12 @@ import termios
 import threading
 import time
 
-from machine import in_time
+from live_nights import without_moments
+from live_outputs import OutputsTest
 from program import PROGRAM, behind_head, run
-from test_live import NEVER, LiveTest, without_moments
 from tooling import wait_for
-from wire import SEQUENCE, SLOT_1, terminal
+from wire import terminal
 
-# From one tick to the next at most, in milliseconds; what holds up the light does for seconds.
-LATE = 400
 # Bytes that a pipe holds, and the program behind it.
 PIPE, ROOM = 65_536, 65_536
 
@@ -31,35 +29,6 @@ def full_pipe():
             filled += os.write(writer, b"x" * 4096)
     except BlockingIOError:
         return reader, writer, filled
-
-
-class OutputsTest(LiveTest):
-    def light(self, night, line, level):
-        """A command is seen in the light."""
-        self.came(wait=0)
-        night.stdin.write(line)
-        until = time.monotonic() + NEVER
-        while time.monotonic() < until:
-            if any(each[SLOT_1] == level for each in self.came(wait=0.05)):
-                return
-        self.fail(f"no light of {level}")
-
-    def assertTicks(self, record):
-        """No tick of a record is late."""
-        ticks = [int(at) for at in re.findall(rb"^(\d+) tick$", record.read_bytes(), re.MULTILINE)]
-        self.assertGreater(len(ticks), 10)
-        for before, after in zip(ticks, ticks[1:]):
-            in_time(self.between(before, after), LATE, f"the tick behind {before}")
-
-    def assertEnds(self, night):
-        """`end` ends it, with all packets that this takes."""
-        self.came(wait=0)
-        night.stdin.write(b"end\n")
-        self.assertEqual(0, night.wait(timeout=30))
-        came = self.came()
-        self.assertTerminated(came[-7:])
-        numbers = [each[SEQUENCE] for each in came]
-        self.assertEqual([(numbers[0] + k) % 256 for k in range(len(numbers))], numbers)
 
 
 class Outputs(OutputsTest):

@@ -1,7 +1,7 @@
 """Every cut of a data packet, and every byte of one turned over, as a receiver takes them."""
 
+from listeners import Listener
 from program import CID, FolderTest, run, text
-from test_listen import Listener
 from worked import look_one, replies_by_number
 
 LOOK_ONE = look_one()

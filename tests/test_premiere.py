@@ -11,10 +11,9 @@ import unittest
 from unittest import mock
 
 from desks import Page
-from folders import FolderNightTest, resumes
+from doors import Door
+from folders import FolderNightTest
 from program import TOP, FolderTest, text
-from test_desk_doors import Door
-from test_desk_folder import NO_RESUME
 from tooling import PATIENCE, Lines, wait_for
 from wire import free_port, terminal
 
@@ -36,7 +35,6 @@ EXPORT = text(
 LOSSY = TOP / "examples/exports/inside.asc"
 
 
-@unittest.skipUnless(resumes(), NO_RESUME)
 class PremiereTest(FolderNightTest):
     def setUp(self):
         super().setUp()

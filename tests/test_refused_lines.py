@@ -2,8 +2,9 @@
 
 import subprocess
 
+from live_nights import LiveTest, without_moments
 from program import behind_head, messages_in
-from test_live import LiveTest, without_moments
+from refusals import NUMBERED, UNKNOWN
 
 LONG = "a line has at most 200 bytes with its moment"
 ENDING = "the night is ending"
@@ -12,9 +13,7 @@ MOMENT = "moments are given by the clock; type the command alone"
 GO = "go takes no number; goto 4 goes to a cue"
 ALONE = "back, end, leave, where and help stand alone"
 GOTO = "goto wants a cue number, and may have a time: goto 4.5, goto 4.5 in 3"
-NUMBERED = "sub and group want a number and a level: sub 3 50, group 1 FL"
 MASTER = "master wants a level: master 50, master FL, master H80"
-UNKNOWN = "no such command; help lists the commands"
 REASONS = (
     (GO, "go 4", "GO in 3", "go go"),
     (ALONE, "back 1", "end now", "Leave it", "where 1", "help go", "? ?"),

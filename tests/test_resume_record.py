@@ -11,8 +11,8 @@ from pathlib import Path
 from typing import NamedTuple
 
 from program import CID, PROGRAM, run
+from restart_nights import SHOW, RestartTest
 from restarts import HEAD, head, moments, sent_by, whole_lines
-from test_restart import SHOW, RestartTest
 from wire import address_of, datagrams_at, receiver_socket
 
 OTHER = CID[:-1] + "2"

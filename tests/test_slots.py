@@ -1,7 +1,7 @@
 """`slots`: the levels of a cue, for people."""
 
+from documents import blocks
 from program import CID, DEVICE_FAULT, TOP, UNFIT, ProgramTest, run, text
-from test_examples import blocks
 from worked import LOOK_ONE as SHOW
 
 TWO = text("PATCH 1 1<1@FL 2<3@FL 1<513@FL", "CUE 1", "CHAN 1@FL 2@50")

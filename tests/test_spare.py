@@ -5,8 +5,8 @@ import select
 import signal
 import time
 
+from restart_nights import HARD, SEED, TRIES, ByTheScript, RestartTest, next_tick
 from restarts import PATIENCE, Wrong, head, moments, wait_until
-from test_restart import HARD, SEED, TRIES, ByTheScript, RestartTest, next_tick
 from tooling import stand_still
 
 # In milliseconds: from a kill to the next packet at most.

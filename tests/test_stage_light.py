@@ -11,8 +11,8 @@ from expected import show as shows
 from expected.desk import Desk
 from expected.runs import play_line
 from expected.words import lines_of
+from listeners import Listener
 from program import CID, PROGRAM, FolderTest, packet, slots_line, text
-from test_listen import Listener
 from wire import SLOT_1, address_of, datagrams_at, receiver_socket
 
 # The window: how far a packet may be behind the newest that arrived before it, and how far ahead.

@@ -2,8 +2,8 @@
 
 from expected import runs
 from program import LIVE_NAME, Outcome, behind_head, packet, run
+from restart_nights import SHOW, RestartTest
 from restarts import moments
-from test_restart import SHOW, RestartTest
 
 
 def sent_first(universe, slots, priority=100):

@@ -3,8 +3,8 @@
 import os
 import subprocess
 
+from live_nights import LiveTest
 from program import CID, LIVE_NAME, PROGRAM, TOP, text
-from test_live import LiveTest
 from wire import own_network
 from worked import S1
 

@@ -12,14 +12,14 @@ import sys
 import time
 from pathlib import Path
 
+from backups import FollowTest
+from failing_calls import FailingCalls
+from listeners import Listener
 from machine import by_clock, in_time
 from preload import PreloadTest
 from program import CID, PROGRAM, FolderTest, packet, text
+from restart_nights import RestartTest
 from restarts import PATIENCE, Judge
-from test_failing_calls import FailingCalls
-from test_follow import FollowTest
-from test_listen import Listener
-from test_restart import RestartTest
 from wire import ReceiverTest, datagrams_at, own_network
 
 SECONDS = float(os.environ.get("CUEPLAYER_CLOCK", 20))

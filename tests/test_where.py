@@ -6,9 +6,9 @@ import subprocess
 
 import inputs
 from expected import live
+from live_nights import LiveTest, without_moments
 from nights import Typed, answers, expected_lines, play_night, play_nights
 from program import PROGRAM, text
-from test_live import LiveTest, without_moments
 from wire import own_network
 
 NIGHTS, COMMANDS, SEED = 8, 1000, 41
