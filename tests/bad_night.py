@@ -33,14 +33,14 @@ from collections.abc import Iterator
 from pathlib import Path
 
 sys.dont_write_bytecode = True
-sys.path.insert(0, str(Path(__file__).resolve().parent))
+sys.path.insert(0, str(Path(__file__).resolve().parent / "harness"))
 
 from machine import (
     Late,
     Took,
     in_time,
     witness,
-)  # noqa: E402  (tests/ is on the path from here on)
+)  # noqa: E402  (the harness is on the path now)
 from program import behind_head, packet  # noqa: E402
 from tooling import TOOLS  # noqa: E402
 from wire import OPTIONS, SEQUENCE, TERMINATED  # noqa: E402

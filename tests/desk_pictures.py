@@ -13,7 +13,7 @@ from unittest import mock
 
 TESTS = Path(__file__).resolve().parent
 sys.dont_write_bytecode = True
-sys.path[:0] = [str(TESTS), str(TESTS.parent / "tools")]
+sys.path[:0] = [str(TESTS / "harness"), str(TESTS.parent / "tools")]
 
 from browser import Browser, BrowserPage  # noqa: E402  (both are on the path from here on)
 from desk_browser import SIZES, resize  # noqa: E402

@@ -24,9 +24,9 @@ from pathlib import Path
 
 TESTS = Path(__file__).resolve().parent
 sys.dont_write_bytecode = True
-sys.path.insert(0, str(TESTS))
+sys.path.insert(0, str(TESTS / "harness"))
 
-import changes  # noqa: E402  (tests/ is on the path from here on)
+import changes  # noqa: E402  (the harness is on the path now)
 import inputs  # noqa: E402
 from expected import runs, show as shows  # noqa: E402
 from expected.words import cue_number  # noqa: E402

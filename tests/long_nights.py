@@ -27,7 +27,7 @@ from types import SimpleNamespace
 from typing import Any
 
 sys.dont_write_bytecode = True
-sys.path.insert(0, str(Path(__file__).resolve().parent))
+sys.path.insert(0, str(Path(__file__).resolve().parent / "harness"))
 
 from folders import NIGHT  # noqa: E402
 from machine import by_clock, witness  # noqa: E402

@@ -23,9 +23,9 @@ import urllib.request
 from pathlib import Path
 
 sys.dont_write_bytecode = True
-sys.path.insert(0, str(Path(__file__).resolve().parent))
+sys.path.insert(0, str(Path(__file__).resolve().parent / "harness"))
 
-from program import text  # noqa: E402  (tests/ is on the path from here on)
+from program import text  # noqa: E402  (the harness is on the path now)
 from restarts import KilledNight, Wrong, sent_by  # noqa: E402
 
 HERE = "10.77.0.1"

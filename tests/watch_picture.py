@@ -8,7 +8,7 @@ from xml.sax.saxutils import escape
 
 TESTS = Path(__file__).resolve().parent
 sys.dont_write_bytecode = True
-sys.path[:0] = [str(TESTS), str(TESTS.parent / "tools")]
+sys.path[:0] = [str(TESTS / "harness"), str(TESTS.parent / "tools")]
 
 from program import TOP, packet, run  # noqa: E402  (both are on the path from here on)
 

@@ -16,7 +16,7 @@ from pathlib import Path
 
 TESTS = Path(__file__).resolve().parent
 sys.dont_write_bytecode = True
-sys.path[:0] = [str(TESTS), str(TESTS.parent / "tools")]
+sys.path[:0] = [str(TESTS / "harness"), str(TESTS.parent / "tools")]
 
 from cueplayer_tools.conform.network import HERE, LINK  # noqa: E402  (both are on the path now)
 from cueplayer_tools.conform.open_lighting import Daemon  # noqa: E402

@@ -95,7 +95,7 @@ class Assurance(unittest.TestCase):
                 if module not in crates():
                     with self.subTest(name, test=module + rest):
                         self.assertTrue(find_test(module, rest))
-            for place in PLACE.findall(text.replace("/NAME/", "/show/")):
+            for place in PLACE.findall(text.replace("/NAME/", "/show_core/")):
                 with self.subTest(name, place=place):
                     self.assertTrue(TOP.joinpath(place).exists())
 

@@ -5,10 +5,10 @@ import shutil
 import subprocess
 import time
 import unittest
-from pathlib import Path
 
 from copied_layout import MADE, SHOWN, CopiedLayout, sum_of
 from machine import in_time, took
+from program import TOP
 
 WORDS = ("look", "-", "1")
 # No more than the head of a program of Linux, which no system starts; it asks for this C library.
@@ -235,7 +235,7 @@ class Version(CopiedLayout):
             ("crates/cueplayer/out/x", "other", False),
             ("crates.txt", (self.top / "crates.txt").read_text() + "more: low\n", False),
             ("crates/low/specs/More.antt", "other", True),
-            ("crates/show_core/src/lib.rt", "other", True),
+            ("crates/show/src/lib.rt", "other", True),
             ("HANDLES", "other", True),
             ("crates.txt", (self.top / "crates.txt").read_text().replace(" show", ""), True),
         ):
@@ -308,20 +308,18 @@ class Shipped(unittest.TestCase):
 
     def test_version_is_said_once(self):
         """The newest version in CHANGELOG is the one that VERSION says, and so is PROVENANCE's."""
-        top = Path(__file__).resolve().parent.parent
-        version = (top / "VERSION").read_text().strip()
+        version = (TOP / "VERSION").read_text().strip()
         self.assertRegex(version, r"^\d+\.\d+\.\d+$")
-        changelog = (top / "CHANGELOG.md").read_text()
+        changelog = (TOP / "CHANGELOG.md").read_text()
         released = changelog.replace("\n## Unreleased\n", "\n", 1).partition("\n## ")[2]
         self.assertRegex(released, rf"^{version} \(\d{{4}}-\d\d-\d\d\)\n")
-        self.assertIn(f"version: {version}\n", (top / "dist/PROVENANCE").read_text())
+        self.assertIn(f"version: {version}\n", (TOP / "dist/PROVENANCE").read_text())
 
     def test_logic_is_that_of_the_program(self):
         """README and CONTRIBUTING name the logic of the toolchain that built the program."""
-        top = Path(__file__).resolve().parent.parent
-        lines = (top / "dist/PROVENANCE").read_text().splitlines()
+        lines = (TOP / "dist/PROVENANCE").read_text().splitlines()
         toolchain = dict(line.split(": ", 1) for line in lines)["toolchain"]
         _, is_named, logic = toolchain.partition(" logic ")
         self.assertTrue(is_named and logic, toolchain)
         for page in ("README.md", "CONTRIBUTING.md"):
-            self.assertIn(f"`logic {logic}`", (top / page).read_text(), page)
+            self.assertIn(f"`logic {logic}`", (TOP / page).read_text(), page)

@@ -8,7 +8,7 @@ import unittest
 from pathlib import Path
 from typing import NamedTuple
 
-TOP = Path(__file__).resolve().parent.parent
+TOP = Path(__file__).resolve().parents[2]
 SHIPPED = TOP / "dist/cueplayer"
 PROGRAM = Path(os.environ.get("CUEPLAYER") or SHIPPED).resolve()
 

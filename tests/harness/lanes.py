@@ -11,9 +11,10 @@ import subprocess
 import sys
 import threading
 import unittest
-from collections.abc import Iterable, Iterator
+from collections.abc import Iterable
 from typing import BinaryIO
 
+from rooms import tests_in
 from tally import Sum, Tally
 
 # Those that take longest begin first, so that none is left over at the end.
@@ -25,15 +26,6 @@ LONG = (
     "test_restart",
     "test_hostile",
 )
-
-
-def tests_in(suite: unittest.TestSuite) -> Iterator[unittest.TestCase]:
-    """The tests of a suite and of the suites inside it."""
-    for part in suite:
-        if isinstance(part, unittest.TestSuite):
-            yield from tests_in(part)
-        else:
-            yield part
 
 
 def are_wanted(test: unittest.TestCase, words: list[str]) -> bool:

@@ -68,7 +68,7 @@ class CopiedLayout(unittest.TestCase):
         self.built = self.top / "crates/cueplayer/out/cueplayer"
         self.program = self.top / "dist/cueplayer"
         self.provenance = self.top / "dist/PROVENANCE"
-        self.source = self.top / "crates/show_core/src/lib.rt"
+        self.source = self.top / "crates/show/src/lib.rt"
         for crate in ("cueplayer", "middle", "show", "low", "aside"):
             (self.top / "crates" / crate / "src").mkdir(parents=True)
             (self.top / "crates" / crate / "src/lib.rt").write_text(crate)

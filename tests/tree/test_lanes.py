@@ -8,8 +8,10 @@ import tempfile
 import unittest
 from pathlib import Path
 
-HERE = Path(__file__).resolve().parent
-PARTS = ("run", "lanes.py", "listing.py", "tally.py", "machine.py", "program.py")
+from rooms import ROOMS
+
+TESTS = Path(__file__).resolve().parents[1]
+PARTS = ("lanes", "listing", "machine", "program", "rooms", "tally")
 SAMPLES = """
 '''Samples of tests. They are few.'''
 import os, unittest
@@ -55,10 +57,12 @@ class Runner(unittest.TestCase):
         folder = tempfile.TemporaryDirectory()
         self.addCleanup(folder.cleanup)
         self.tests = Path(folder.name, "tests")
-        self.tests.mkdir()
+        for room in ("harness", *ROOMS):
+            (self.tests / room).mkdir(parents=True)
+        shutil.copy(TESTS / "run", self.tests)
         for part in PARTS:
-            shutil.copy(HERE / part, self.tests)
-        (self.tests / "test_samples.py").write_text(SAMPLES)
+            shutil.copy(TESTS / f"harness/{part}.py", self.tests / "harness")
+        (self.tests / "tree/test_samples.py").write_text(SAMPLES)
 
     def run_tests(self, *words: str) -> tuple[int, list[str]]:
         """The status and the lines of a run."""

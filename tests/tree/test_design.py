@@ -16,7 +16,7 @@ CRATES = {
     for crate, below in re.findall(r"(?m)^(\w+):(.*)$", (TOP / "crates.txt").read_text())
 }
 # Folders of which a file is named without them.
-PYTHON = ("", "tests/", "tests/expected/", "tools/cueplayer_tools/")
+PYTHON = ("", "tests/", "tests/harness/", "tests/expected/", "tools/cueplayer_tools/")
 
 
 def chapter(page, title):

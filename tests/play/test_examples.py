@@ -2,10 +2,10 @@
 
 import re
 import socket
-import unittest
 
 from documents import blocks
 from program import CID, TOP, ProgramTest, counts, packet, run, text
+from rooms import discovered
 from wire import address_of
 from worked import NAMES
 
@@ -72,18 +72,10 @@ class Examples(ProgramTest):
         self.assertEqual(shown, re.findall("slots.*", replies.decode()))
 
 
-def tests_in(suite):
-    """The names of the tests of a suite and of the suites inside it."""
-    for part in suite:
-        yield from tests_in(part) if isinstance(part, unittest.TestSuite) else [
-            part.id().split(".")[-1]
-        ]
-
-
 class Documents(ProgramTest):
     def test_worked_examples(self):
         """Each example is carried out by a test of its name."""
-        found = set(tests_in(unittest.defaultTestLoader.discover(str(TOP / "tests"))))
+        found = {test.id().rpartition(".")[2] for test in discovered()}
         self.assertEqual(set(), {f"test_{name}" for name in NAMES} - found)
 
     def test_profile_show(self):

@@ -13,7 +13,7 @@ from typing import Any, NamedTuple
 
 from browser import Browser, BrowserPage
 
-PICTURES = Path(__file__).resolve().parent / "pictures"
+PICTURES = Path(__file__).resolve().parents[1] / "pictures"
 # How far two colours may be apart, of 255 in red, green or blue; which part of a picture's squares,
 # and of a control's, may be further apart; and by how many pixels an edge of a control may move.
 MOST_APART = 24
