@@ -150,6 +150,14 @@ class Manual(unittest.TestCase):
                 options = sections(f"cueplayer-{tool}.1")["OPTIONS"]
                 self.assertEqual(known, set(re.findall(r"(?<![\w-])--[a-z-]+", page_text(options))))
 
+    def test_help_of_tools(self):
+        """It begins with a sentence in a paragraph, and an example of the tool."""
+        for tool in TOOLS:
+            with self.subTest(tool):
+                told = run_tool(tool, "--help").stdout
+                self.assertRegex(told, rf"\A[A-Z][^\n]+(\n[^\n]+)?\.\n\n  \S*{tool} .*\n")
+                self.assertLess(told.index(f"{tool} "), told.index("\nusage: "))
+
     def test_night(self):
         """Each command of the script's help has its part."""
         done = subprocess.run([TOP / "cueplayer-night", "--help"], capture_output=True, text=True)

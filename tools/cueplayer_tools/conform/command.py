@@ -196,7 +196,7 @@ def _write_vectors(chosen: argparse.Namespace) -> int:
 
 def main(words: list[str]) -> int:
     """Runs the tool with these words, and answers its exit status."""
-    chosen = chosen_words(words, __doc__)
+    chosen = chosen_words(words)
     try:
         if chosen.kind == "page":
             results = [each for file in chosen.results for each in read_results(file)]

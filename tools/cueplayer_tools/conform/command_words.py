@@ -7,6 +7,10 @@ from collections.abc import Callable
 from cueplayer_tools.conform.peers import PORT
 from cueplayer_tools.conform.rules import RULES
 from cueplayer_tools.conform.script import SETTLE
+from cueplayer_tools.tool_parser import ToolParser
+
+ABOUT = "Tries receivers and sources of E1.31 by the rules of the standard."
+EXAMPLES = ("tools/conform receiver ola", "tools/conform source --at 192.168.1.5 --universes 1-4")
 
 MOST_UNIVERSES = 100
 PEERS = ("cueplayer", "ola", "qlcplus")
@@ -124,10 +128,15 @@ def _check(parser: argparse.ArgumentParser, words: argparse.Namespace) -> None:
         parser.error(f"source: name a peer ({told}), or where to listen")
 
 
-def chosen_words(words: list[str], about: str | None) -> argparse.Namespace:
+def chosen_words(words: list[str]) -> argparse.Namespace:
     """What the words ask for; ends where they are refused."""
-    parser = argparse.ArgumentParser(prog="conform", description=about)
-    kinds = parser.add_subparsers(required=True, metavar="|".join(KINDS), dest="kind")
+    parser = ToolParser("conform", ABOUT, EXAMPLES)
+    kinds = parser.add_subparsers(
+        required=True,
+        metavar="|".join(KINDS),
+        dest="kind",
+        parser_class=argparse.ArgumentParser,
+    )
     _receiver_words(kinds)
     _source_words(kinds)
     kind = kinds.add_parser("vectors", help="writes the cases for tests of your own")

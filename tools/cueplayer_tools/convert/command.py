@@ -1,7 +1,4 @@
-"""`tools/convert`: makes a show file of another console's export, and reports what became of it.
-
-Status 0: nothing was lost that may have held light. 3: something was, and the report names it. 1:
-no show was written, and standard error says why."""
+"""`tools/convert`: makes a show file of another console's export, and reports what became of it."""
 
 import argparse
 import sys
@@ -17,6 +14,12 @@ from cueplayer_tools.convert.table import table_file, table_lines, write_table
 from cueplayer_tools.files import read_whole, write_out
 from cueplayer_tools.line_protocol import Refused, count_of, printable
 from cueplayer_tools.program import run
+from cueplayer_tools.tool_parser import ToolParser
+
+ABOUT = "Makes a show file of another console's export, and reports what became of it."
+EXAMPLES = ("tools/convert hamlet.export.asc > hamlet.asc",)
+STATUS = """Status 0: nothing was lost that may have held light. 3: something was, and the report
+names it. 1: no show was written, and standard error says why."""
 
 # A file that is longer than this is no export of a show.
 LONGEST_EXPORT = 67_108_864
@@ -96,7 +99,7 @@ def report_of(name: str, content: bytes, conversion: Conversion) -> list[str]:
 
 
 def _parser() -> argparse.ArgumentParser:
-    parser = argparse.ArgumentParser(prog="convert", description=__doc__)
+    parser = ToolParser("convert", ABOUT, EXAMPLES, STATUS)
     add = parser.add_argument
     add("file", metavar="FILE", help="the export; - is standard input")
     page = "takes the cues of page N, which some consoles use for the cue list"

@@ -45,6 +45,13 @@ from cueplayer_tools.osc.feedback import Feedback
 from cueplayer_tools.osc.port import OscPort
 from cueplayer_tools.targets import target
 from cueplayer_tools.teller import Teller, leave_all
+from cueplayer_tools.tool_parser import ToolParser
+
+ABOUT = "Runs `live`, or plays a night that is kept, and serves a page to play it from."
+EXAMPLES = (
+    "tools/desk hamlet.asc --to 239.255.0.0 --interface eth0",
+    "tools/desk --night tonight --listen 192.168.1.5",
+)
 
 # How long a second control-C counts, and how long `live` may take to end.
 SECOND_PRESS = 3.0
@@ -64,7 +71,7 @@ NIGHT_WORDS = (
 
 
 def _parser() -> argparse.ArgumentParser:
-    parser = argparse.ArgumentParser(prog="desk", description=__doc__)
+    parser = ToolParser("desk", ABOUT, EXAMPLES)
     parser.add_argument("show", metavar="SHOW", nargs="?")
     _add_way(parser)
     parser.add_argument(

@@ -1,6 +1,5 @@
 """`tools/osc`: turns Open Sound Control into lines for `live`, or plays a night's folder."""
 
-import argparse
 import fcntl
 import os
 import select
@@ -14,6 +13,13 @@ from cueplayer_tools.line_protocol import Refused
 from cueplayer_tools.night_folder import NightFolder
 from cueplayer_tools.osc.port import LATE, OscPort
 from cueplayer_tools.teller import Teller, leave_all
+from cueplayer_tools.tool_parser import ToolParser
+
+ABOUT = "Turns Open Sound Control into lines for `live`, or plays a night that is kept."
+EXAMPLES = (
+    "tools/osc --listen 192.168.1.5:8000 --night tonight",
+    "tools/osc --listen 192.168.1.5:8000 | ./cueplayer live ..",
+)
 
 USUAL = "127.0.0.1:8000"
 
@@ -71,7 +77,7 @@ def serve(port: OscPort, output: Output | NightFolder) -> None:
 
 def main(words: list[str]) -> int:
     """Runs the tool with these words, and answers its exit status."""
-    parser = argparse.ArgumentParser(prog="osc", description=__doc__)
+    parser = ToolParser("osc", ABOUT, EXAMPLES)
     parser.add_argument(
         "--listen",
         metavar="ADDR:PORT",

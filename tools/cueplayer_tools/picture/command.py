@@ -25,6 +25,10 @@ from cueplayer_tools.storm.command import (
 )
 from cueplayer_tools.storm.report import network_words
 from cueplayer_tools.storm.sweep import blown
+from cueplayer_tools.tool_parser import ToolParser
+
+ABOUT = "Draws a night, a rehearsal or a storm as scalable vector graphics."
+EXAMPLES = ("tools/picture night hamlet.asc tonight/record > night.svg",)
 
 QUESTIONS = 480
 
@@ -96,8 +100,11 @@ def storm_picture(words: argparse.Namespace) -> str:
 
 
 def _parser() -> argparse.ArgumentParser:
-    parser = argparse.ArgumentParser(prog="picture", description=__doc__)
-    kinds = parser.add_subparsers(required=True, metavar="night|rehearsal|storm")
+    parser = ToolParser("picture", ABOUT, EXAMPLES)
+    metavar = "night|rehearsal|storm"
+    kinds = parser.add_subparsers(
+        required=True, metavar=metavar, parser_class=argparse.ArgumentParser
+    )
     night = kinds.add_parser("night", help="a record of `live`, or lines of `play`")
     night.add_argument("show", metavar="SHOW")
     night.add_argument("record", metavar="RECORD")

@@ -32,26 +32,20 @@ from cueplayer_tools.premiere.show import LightLost, Made, made_show
 from cueplayer_tools.program import program
 from cueplayer_tools.targets import target
 from cueplayer_tools.teller import Teller, leave_all
+from cueplayer_tools.tool_parser import ToolParser
 
-HELP = """\
+ABOUT = """\
 Plays a show tonight: checks it, or converts another console's export, begins a night with a spare
-and a record, and serves a page to play it from by a PIN.
-
-  cueplayer premiere hamlet.asc --to 239.255.0.0
-"""
+and a record, and serves a page to play it from by a PIN."""
+EXAMPLES = ("cueplayer premiere hamlet.asc --to 239.255.0.0",)
 # The status where `convert` has one of its own for what was lost.
 LIGHT_LOST = 3
 # The words of `live` that are handed on.
 LIVE_VALUES = ("interface", "priority", "base", "name", "ttl")
 
 
-class _Parser(argparse.ArgumentParser):
-    def format_help(self) -> str:
-        return f"{HELP}\n{super().format_help()}"
-
-
 def _parser() -> argparse.ArgumentParser:
-    parser = _Parser(prog="cueplayer premiere")
+    parser = ToolParser("cueplayer premiere", ABOUT, EXAMPLES)
     add = parser.add_argument
     add("show", metavar="SHOW", help="a show file, or another console's export")
     to = "where to send, as for `live`: 239.255.0.0 is multicast, for all nodes; once or more"

@@ -13,6 +13,10 @@ from cueplayer_tools.line_protocol import Refused, count_of
 from cueplayer_tools.looks import looks_of
 from cueplayer_tools.sheet.notes import notes_of
 from cueplayer_tools.sheet.page import Sheet, page_of
+from cueplayer_tools.tool_parser import ToolParser
+
+ABOUT = "Makes a cue sheet for the stage manager's book, one HTML page to print."
+EXAMPLES = ("tools/sheet hamlet.asc > hamlet.html",)
 
 # One byte more than the longest show, so that the program refuses what is longer.
 MOST_READ = 1_048_577
@@ -32,7 +36,7 @@ def sheet_of(content: bytes, name: str, title: str | None) -> Sheet:
 
 
 def _parser() -> argparse.ArgumentParser:
-    parser = argparse.ArgumentParser(prog="sheet", description=__doc__)
+    parser = ToolParser("sheet", ABOUT, EXAMPLES)
     parser.add_argument("show", metavar="SHOW", help="a show file; - is standard input")
     title = "the name of the show; by default that of the file"
     parser.add_argument("--title", metavar="TEXT", help=title)

@@ -25,6 +25,10 @@ from cueplayer_tools.storm.night import (
 from cueplayer_tools.storm.report import data, fault_words, report
 from cueplayer_tools.storm.seen import Keep
 from cueplayer_tools.storm.sweep import Found, Rate, Sweep, blown, rate_data, sweep_table, swept
+from cueplayer_tools.tool_parser import ToolParser
+
+ABOUT = "Shows what the audience sees of a night in a network that loses packets."
+EXAMPLES = ("tools/storm hamlet.asc tonight/record --loss 2 --reorder 5",)
 
 BROKEN = 1
 REFUSED = 2
@@ -255,7 +259,7 @@ def _storm_told(
 
 
 def _parser() -> argparse.ArgumentParser:
-    parser = argparse.ArgumentParser(prog="storm", description=__doc__)
+    parser = ToolParser("storm", ABOUT, EXAMPLES)
     add_storm(parser)
     parser.add_argument("--scripts", metavar="FOLDER", help="keep the scripts of the rehearsals")
     parser.add_argument("--json", action="store_true", help="print data")

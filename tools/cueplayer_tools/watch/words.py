@@ -5,16 +5,16 @@ import re
 
 from cueplayer_tools.addresses import port_number
 from cueplayer_tools.line_protocol import Refused, printable
+from cueplayer_tools.tool_parser import ToolParser
 from cueplayer_tools.watch.group_socket import PORT
 
 MOST_UNIVERSES = 16
 TOP_UNIVERSE = 63_999
-HELP = """\
-Shows who sends what on which universe, as the proved receiver sees it.
-
-  tools/watch 1-4                 what comes to this machine, on a screen
-  tools/watch FILE.pcapng         a capture of tshark, tcpdump or Wireshark; - is standard input
-"""
+ABOUT = "Shows who sends what on which universe, as the proved receiver sees it."
+EXAMPLES = (
+    "tools/watch 1-4 --interface eth0   what comes to this machine by a card, on a screen",
+    "tools/watch night.pcapng           a capture of tshark, tcpdump or Wireshark; - is a pipe",
+)
 _UNIVERSES = r"(\d{1,5})(?:-(\d{1,5}))?"
 
 
@@ -45,9 +45,7 @@ def seconds(word: str) -> float:
 
 
 def _parser() -> argparse.ArgumentParser:
-    parser = argparse.ArgumentParser(
-        prog="watch", description=HELP, formatter_class=argparse.RawDescriptionHelpFormatter
-    )
+    parser = ToolParser("watch", ABOUT, EXAMPLES)
     add = parser.add_argument
     named = "a universe, as 1, or several, as 1-4; of a capture, by default all"
     add("universes", metavar="UNIVERSE", nargs="*", help=named)
