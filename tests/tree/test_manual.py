@@ -155,7 +155,7 @@ class Manual(unittest.TestCase):
         for tool in TOOLS:
             with self.subTest(tool):
                 told = run_tool(tool, "--help").stdout
-                self.assertRegex(told, rf"\A[A-Z][^\n]+(\n[^\n]+)?\.\n\n  \S*{tool} .*\n")
+                self.assertRegex(told, rf"\A[A-Z][^\n]+(\n[^\n]+)?\.\n\n  .*{tool} .*\n")
                 self.assertLess(told.index(f"{tool} "), told.index("\nusage: "))
 
     def test_night(self):
