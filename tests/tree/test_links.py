@@ -6,7 +6,7 @@ from pathlib import Path
 
 from program import TOP
 
-PLACES = ("*.md", "docs/*.md", "crates/*/README.md")
+PLACES = ("*.md", "docs/*.md", "dev/*.md", "bench/*.md", "crates/*/README.md")
 PAGES = [page for place in PLACES for page in sorted(TOP.glob(place))]
 FENCED = re.compile(r"^ *```.*?^ *```$", re.MULTILINE | re.DOTALL)
 LINK = re.compile(r"\]\(([^)\s]+)\)")
