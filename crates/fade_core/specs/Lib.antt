@@ -5,3 +5,4 @@ pub mod Share
 pub mod Digits
 pub mod Stepping
 pub mod Course
+pub mod Plain

@@ -7,7 +7,6 @@ ghost use Rattle.fade_core.specs.Level.{byte_of};
 ghost use Rattle.fade_core.specs.Course.{course_view, IsCourse};
 ghost use Rattle.fade_core.specs.Fading.{Fading, Shows, level_at};
 
-use crate::divide::divide;
 use crate::share::Shares;
 use crate::target::Goal;
 use crate::walk::{bring, restart};
@@ -60,20 +59,6 @@ impl Course {
             began: 0,
             latest: 0,
         })
-    }
-
-    // Moves on to this moment, with a division for each channel.
-    pub fn divide_to(&mut self, moment: u64)
-        requires { self.old.latest ≤ moment }
-        ensures { self.new ≡ record self.old { latest = moment } }
-    {
-        let ways = Ways {
-            from: &self.from,
-            to: &self.to,
-        };
-        let elapsed = moment - self.began;
-        divide(&mut self.levels, ways, self.up, self.down, elapsed);
-        self.latest = moment;
     }
 
     // Moves on to this moment, with two divisions at most.
