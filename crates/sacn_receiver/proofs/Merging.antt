@@ -15,31 +15,13 @@ use Rattle.sacn_receiver.specs.Source.{Entry, same_cid, records, while_there}
 use Rattle.sacn_receiver.specs.Shown.{Light, light_of, live, greatest, merged_slot, shown_slot}
 use Rattle.sacn_receiver.specs.Shown.{shown_slots}
 use Rattle.sacn_receiver.specs.Kept.{ReceiverState, StandsFor}
-use Rattle.sacn_receiver.specs.Records.{entries, kept_entry, is_live_at, lights_at, top_at, lit}
+use Rattle.sacn_receiver.specs.Records.{entries, kept_entry, is_live_at, leads_at, lights_at}
+use Rattle.sacn_receiver.specs.Records.{top_at, lit}
 use Rattle.sacn_receiver.specs.Places.{AreDistinct}
 use Rattle.sacn_receiver.proofs.Members.{In, In_map, In_mapped}
 use Rattle.sacn_receiver.proofs.Apart.{find_kept, kept_distinct, find_records, records_distinct}
 use Rattle.sacn_receiver.proofs.Apart.{FindSame, same_in, as_many}
 use Rattle.sacn_receiver.proofs.Same.{merged_same}
-
--- no slot of the frame that stands for no record is above 0
-pub dark : (s : ℕ) → get_or (replicate {A = ℕ} 512 0) s 0 ≡ 0
-dark s = elim (cases_lt s 512) [
-  | inl lt ↦ get_or-replicate 512 s 0 0 lt
-  | inr le ↦ get_or_past (replicate 512 0) s 0 (omega (arith, length-replicate {A = ℕ} 512 0))
-]
-
--- the greatest of what at most four records show
-pub greatest_of_four : (t top s : ℕ) (rs : List Record) → length rs ≤ 4
-    → max (max (max (lit t top (slice_get rs 0) s) (lit t top (slice_get rs 1) s))
-    (lit t top (slice_get rs 2) s)) (lit t top (slice_get rs 3) s)
-    ≡ greatest (map (λ r. lit t top (Some r) s) rs)
-greatest_of_four t top s [] few = refl
-greatest_of_four t top s (a ∷ []) few = omega arith
-greatest_of_four t top s (a ∷ b ∷ []) few = omega arith
-greatest_of_four t top s (a ∷ b ∷ c ∷ []) few = omega arith
-greatest_of_four t top s (a ∷ b ∷ c ∷ d ∷ []) few = omega arith
-greatest_of_four t top s (a ∷ b ∷ c ∷ d ∷ e ∷ rs) few = absurd (omega arith)
 
 -- the greatest priority, one record on
 module _ (t : ℕ) where
@@ -64,12 +46,30 @@ module _ (t : ℕ) where
         → top_at t (take (i + 1) rs) ≡ top_at t (take i rs)
     top_dark q = grind (arith, top_more, q)
 
--- the greatest slot of the records that lead is that of all, where the others count for 0
-pub greatest_lit : (t s top : ℕ) (rs : List Record) → greatest (map (λ r. lit t top (Some r) s) rs)
+-- the greatest slot of the records that lead, where the others count for 0
+abbrev pub greatest_lit : ℕ → ℕ → ℕ → List Record → ℕ
+greatest_lit t top s rs = greatest (map (lit t top s) rs)
+
+module _ (t top s : ℕ) (rs : List Record) (i : ℕ) (d : Record) (lt : i < length rs) where
+  lit_more : greatest_lit t top s (take (i + 1) rs)
+      ≡ max (greatest_lit t top s (take i rs)) (lit t top s (get_or rs i d))
+  lit_more = ap (greatest_lit t top s) (take_more rs i d lt)
+      ∙ max_push (greatest_lit t top s) (lit t top s) refl (λ r rs. refl) (take i rs) (get_or rs i d)
+
+  pub lit_leads : leads_at t top (kept_entry (get_or rs i d)) ≡ true
+      → greatest_lit t top s (take (i + 1) rs)
+      ≡ max (greatest_lit t top s (take i rs)) (slice_index (get_or rs i d).slots s)
+  lit_leads q = grind (arith, lit_more, q)
+
+  pub lit_other : leads_at t top (kept_entry (get_or rs i d)) ≡ false
+      → greatest_lit t top s (take (i + 1) rs) ≡ greatest_lit t top s (take i rs)
+  lit_other q = grind (arith, lit_more, q)
+
+pub lit_merged : (t top s : ℕ) (rs : List Record) → greatest_lit t top s rs
     ≡ greatest (map (λ l. slice_index l.slots s) (filter (λ l. l.priority == top) (lights_at t rs)))
-greatest_lit t s top [] = refl
-greatest_lit t s top (r ∷ rs) =
-    let ih = greatest_lit t s top rs in grind (arith, ih)
+lit_merged t top s [] = refl
+lit_merged t top s (r ∷ rs) =
+    let ih = lit_merged t top s rs in grind (arith, ih)
 
 lights_in : (es fs : List Entry) → ((e : Entry) → In e es → In e fs) → (l : Light)
     → In l (map light_of es) → In l (map light_of fs)

@@ -1,7 +1,7 @@
 -- The records of a receiver, seen as entries of its history.
 -- Of use inside the crate: what its public calls answer is said without these.
 use Rattle.std.specs.Prelude.{ℕ, ◌==◌, Bool, not, ◌&&◌, if◌then◌else◌, List, map, filter}
-use Rattle.std.specs.Prelude.{slice_index, Option, Some, None}
+use Rattle.std.specs.Prelude.{slice_index}
 use Rattle.sacn_receiver.specs.declared.record.Record.{Record}
 use Rattle.sacn_receiver.specs.Source.{Entry, is_there}
 use Rattle.sacn_receiver.specs.Shown.{Light, light_of, greatest}
@@ -35,7 +35,6 @@ top_at t rs = greatest (map (λ l. l.priority) (lights_at t rs))
 abbrev pub leads_at : ℕ → ℕ → Entry → Bool
 leads_at t top e = is_live_at t e && (e.priority == top)
 
--- slot s of a record that leads; 0 of another, and where there is none
-abbrev pub lit : ℕ → ℕ → Option Record → ℕ → ℕ
-lit t top None s = 0
-lit t top (Some r) s = if leads_at t top (kept_entry r) then slice_index r.slots s else 0
+-- slot s of a record that leads; 0 of another
+abbrev pub lit : ℕ → ℕ → ℕ → Record → ℕ
+lit t top s r = if leads_at t top (kept_entry r) then slice_index r.slots s else 0
