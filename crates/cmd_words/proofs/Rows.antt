@@ -18,8 +18,10 @@ use Rattle.cmd_words.specs.declared.misfit.Form.TheVariants.{Alone, ByCard, Resu
 use Rattle.cmd_words.specs.declared.misfit.Form.TheVariants.{Target as TargetForm}
 use Rattle.cmd_words.specs.declared.misfit.Form.TheVariants.{Once, Sixteen, Universe}
 use Rattle.cmd_words.specs.declared.job.Night.{Night}
-use Rattle.cmd_words.specs.declared.job.Job.TheVariants.{Check, Explain, Cues, Look, Slots}
-use Rattle.cmd_words.specs.declared.job.Job.TheVariants.{Play, Live, Rehearse, Listen, Watch}
+use Rattle.cmd_words.specs.declared.job.LiveOptions.{LiveOptions}
+use Rattle.cmd_words.specs.declared.job.Job.TheVariants.{Check, CheckStrictly, Explain, Cues}
+use Rattle.cmd_words.specs.declared.job.Job.TheVariants.{Look, Slots, Play, PlayNight, Live}
+use Rattle.cmd_words.specs.declared.job.Job.TheVariants.{Rehearse, Listen, Watch}
 
 -- `check a.asc`, with more options
 abbrev check_words : List Text → List Text
@@ -43,8 +45,8 @@ check_passes : Passes (check_words (codes "--strict" ∷ []))
 unfolding clap_on_literals
 check_passes = refl
 
-check_job : (job_of (check_words []) ≡ Some (Check (codes "a.asc") false))
-    × (job_of (check_words (codes "--strict" ∷ [])) ≡ Some (Check (codes "a.asc") true))
+check_job : (job_of (check_words []) ≡ Some (Check (codes "a.asc")))
+    × (job_of (check_words (codes "--strict" ∷ [])) ≡ Some (CheckStrictly (codes "a.asc")))
 unfolding clap_on_literals
 check_job = (refl, refl)
 
@@ -166,13 +168,13 @@ unfolding clap_on_literals
 play_passes = refl
 
 play_job : job_of (play_words (codes "127.0.0.1") [])
-    ≡ Some (Play (night (127 ∷ 0 ∷ 0 ∷ 1 ∷ [], 5568) 100 1))
+    ≡ Some (Play (codes "a.asc") (127 ∷ 0 ∷ 0 ∷ 1 ∷ [], 5568) cid 100 1)
 unfolding clap_on_literals uuid_on_literals
 play_job = refl
 
 play_options : job_of (play_words (codes "10.0.0.9:5000")
     (codes "--base" ∷ codes "63999" ∷ codes "--priority" ∷ codes "200" ∷ []))
-    ≡ Some (Play (night (10 ∷ 0 ∷ 0 ∷ 9 ∷ [], 5000) 200 63999))
+    ≡ Some (Play (codes "a.asc") (10 ∷ 0 ∷ 0 ∷ 9 ∷ [], 5000) cid 200 63999)
 unfolding clap_on_literals uuid_on_literals
 play_options = refl
 
@@ -181,7 +183,7 @@ play_by_card : job_of
     (play_words (codes "239.255.0.0") (codes "--to" ∷ codes "3=10.0.0.7" ∷ codes "--to"
     ∷ codes "1-8=10.0.0.5:5569" ∷ codes "--interface" ∷ codes "eth0" ∷ codes "--any-route"
     ∷ codes "--name" ∷ codes "main" ∷ codes "--ttl" ∷ codes "255" ∷ []))
-    ≡ Some (Play (record (night (239 ∷ 255 ∷ 0 ∷ 0 ∷ [], 5568) 100 1) {
+    ≡ Some (PlayNight (record (night (239 ∷ 255 ∷ 0 ∷ 0 ∷ [], 5568) 100 1) {
       targets = target None (239 ∷ 255 ∷ 0 ∷ 0 ∷ []) 5568
           ∷ target (Some record { first = 3; last = 3 }) (10 ∷ 0 ∷ 0 ∷ 7 ∷ []) 5568
           ∷ target (Some record { first = 1; last = 8 }) (10 ∷ 0 ∷ 0 ∷ 5 ∷ []) 5569 ∷ [];
@@ -192,6 +194,20 @@ play_by_card : job_of
     }))
 unfolding clap_on_literals uuid_on_literals
 play_by_card = refl
+
+-- one target, for one universe
+play_to_one_universe : job_of (play_words (codes "3=10.0.0.7") [])
+    ≡ Some (PlayNight (record (night (10 ∷ 0 ∷ 0 ∷ 7 ∷ [], 5568) 100 1) {
+      targets = target (Some record { first = 3; last = 3 }) (10 ∷ 0 ∷ 0 ∷ 7 ∷ []) 5568 ∷ [];
+    }))
+unfolding clap_on_literals uuid_on_literals
+play_to_one_universe = refl
+
+-- a TTL of its own
+play_with_ttl : job_of (play_words (codes "127.0.0.1") (codes "--ttl" ∷ codes "2" ∷ []))
+    ≡ Some (PlayNight (record (night (127 ∷ 0 ∷ 0 ∷ 1 ∷ [], 5568) 100 1) { ttl = 2 }))
+unfolding clap_on_literals uuid_on_literals
+play_with_ttl = refl
 
 second_target_told : words_misfit
     (play_words (codes "10.0.0.7") (codes "--to" ∷ codes "8-1=10.0.0.7" ∷ []))
@@ -209,36 +225,45 @@ play_unfit_job : job_of (play_words (codes "127.0.0.1") (codes "--priority" ∷ 
 unfolding clap_on_literals uuid_on_literals
 play_unfit_job = refl
 
+-- `live` without options of its own
+abbrev no_options : LiveOptions
+no_options = record {
+  record_file = None;
+  resumes = false;
+  is_spare = false;
+  start = None;
+  main_file = None;
+  patience = 1000;
+  ends_with_input = false;
+}
+
 live_passes : Passes (sending_words (codes "live") (codes "127.0.0.1") [])
 unfolding clap_on_literals
 live_passes = refl
 
 live_job : job_of (sending_words (codes "live") (codes "127.0.0.1") [])
-    ≡ Some (Live (night (127 ∷ 0 ∷ 0 ∷ 1 ∷ [], 5568) 100 1) None false false None None 1000 false)
+    ≡ Some (Live (night (127 ∷ 0 ∷ 0 ∷ 1 ∷ [], 5568) 100 1) no_options)
 unfolding clap_on_literals uuid_on_literals
 live_job = refl
 
 live_recorded : job_of (sending_words (codes "live") (codes "127.0.0.1:9")
     (codes "--record" ∷ codes "b.play" ∷ codes "--priority" ∷ codes "150" ∷ []))
-    ≡ Some (Live (night (127 ∷ 0 ∷ 0 ∷ 1 ∷ [], 9) 150 1) (Some (codes "b.play")) false false
-    None None
-    1000 false)
+    ≡ Some (Live (night (127 ∷ 0 ∷ 0 ∷ 1 ∷ [], 9) 150 1)
+    (record no_options { record_file = Some (codes "b.play") }))
 unfolding clap_on_literals uuid_on_literals
 live_recorded = refl
 
 live_ends : job_of (sending_words (codes "live") (codes "127.0.0.1:9")
     (codes "--end-with-input" ∷ codes "--record" ∷ codes "b.play" ∷ []))
-    ≡ Some (Live (night (127 ∷ 0 ∷ 0 ∷ 1 ∷ [], 9) 100 1) (Some (codes "b.play")) false false
-    None None
-    1000 true)
+    ≡ Some (Live (night (127 ∷ 0 ∷ 0 ∷ 1 ∷ [], 9) 100 1)
+    (record no_options { record_file = Some (codes "b.play"); ends_with_input = true }))
 unfolding clap_on_literals uuid_on_literals
 live_ends = refl
 
 live_resumes : job_of (sending_words (codes "live") (codes "127.0.0.1:9")
     (codes "--record" ∷ codes "b.play" ∷ codes "--resume" ∷ codes "--start" ∷ codes "2.5" ∷ []))
-    ≡ Some (Live (night (127 ∷ 0 ∷ 0 ∷ 1 ∷ [], 9) 100 1) (Some (codes "b.play")) true false
-    (Some 2500)
-    None 1000 false)
+    ≡ Some (Live (night (127 ∷ 0 ∷ 0 ∷ 1 ∷ [], 9) 100 1)
+    (record no_options { record_file = Some (codes "b.play"); resumes = true; start = Some 2500 }))
 unfolding clap_on_literals uuid_on_literals
 live_resumes = refl
 
@@ -255,8 +280,8 @@ lone_resume_told = refl
 
 live_spare : job_of (sending_words (codes "live") (codes "127.0.0.1:9")
     (codes "--record" ∷ codes "b.play" ∷ codes "--resume" ∷ codes "--spare" ∷ []))
-    ≡ Some (Live (night (127 ∷ 0 ∷ 0 ∷ 1 ∷ [], 9) 100 1) (Some (codes "b.play")) true true None
-    None 1000 false)
+    ≡ Some (Live (night (127 ∷ 0 ∷ 0 ∷ 1 ∷ [], 9) 100 1)
+    (record no_options { record_file = Some (codes "b.play"); resumes = true; is_spare = true }))
 unfolding clap_on_literals uuid_on_literals
 live_spare = refl
 
@@ -268,9 +293,8 @@ lone_spare_told = refl
 
 live_follows : job_of (sending_words (codes "live") (codes "127.0.0.1:9")
     (codes "--follow" ∷ codes "b.play" ∷ codes "--patience" ∷ codes "060000" ∷ []))
-    ≡ Some (Live (night (127 ∷ 0 ∷ 0 ∷ 1 ∷ [], 9) 100 1) None false false None
-    (Some (codes "b.play"))
-    60000 false)
+    ≡ Some (Live (night (127 ∷ 0 ∷ 0 ∷ 1 ∷ [], 9) 100 1)
+    (record no_options { main_file = Some (codes "b.play"); patience = 60000 }))
 unfolding clap_on_literals uuid_on_literals
 live_follows = refl
 

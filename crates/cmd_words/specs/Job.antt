@@ -10,14 +10,16 @@ use Rattle.uuid.specs.Text.{parsed}
 use Rattle.ascii_text.specs.Forms.{cue_number_of}
 use Rattle.cmd_words.specs.Address.{address_of}
 use Rattle.cmd_words.specs.Number.{number_between}
+use Rattle.cmd_words.specs.Plain.{play_job}
 use Rattle.cmd_words.specs.Program.{program}
 use Rattle.cmd_words.specs.Target.{targets_of}
 use Rattle.cmd_words.specs.Watched.{watch_universes}
 use Rattle.targets.specs.declared.target.Target.{Target}
 use Rattle.cmd_words.specs.declared.job.Night.{Night}
 use Rattle.cmd_words.specs.declared.job.Job.{Job}
-use Rattle.cmd_words.specs.declared.job.Job.TheVariants.{Check, Explain, Cues, Look, Slots}
-use Rattle.cmd_words.specs.declared.job.Job.TheVariants.{Play, Live, Rehearse, Listen, Watch}
+use Rattle.cmd_words.specs.declared.job.Job.TheVariants.{Check, CheckStrictly, Explain, Cues}
+use Rattle.cmd_words.specs.declared.job.Job.TheVariants.{Look, Slots, Play, PlayNight, Live}
+use Rattle.cmd_words.specs.declared.job.Job.TheVariants.{Rehearse, Listen, Watch}
 
 -- the value of an argument that has to be there: its text, read by a form
 abbrev pub value_by : {X : Type 0} → (Text → Option X) → Text → List Row → Option X
@@ -34,7 +36,8 @@ has_flag id rows = option_map_or (λ text. bytes_eq text (codes "true")) (first_
 -- the job of `check SHOW [--strict]`
 abbrev pub check_of : List Row → Option Job
 check_of rows =
-    option_map (λ show. Check show (has_flag (codes "strict") rows)) (first_of (codes "SHOW") rows)
+    option_map (if has_flag (codes "strict") rows then CheckStrictly else Check)
+    (first_of (codes "SHOW") rows)
 
 -- the job of `explain SHOW`
 abbrev pub explain_of : List Row → Option Job
@@ -125,7 +128,7 @@ night_of rows = night_with (first_of (codes "SHOW") rows) (targets_of (texts_of 
 
 -- the job of `play`, which has the arguments of a night
 abbrev pub play_of : List Row → Option Job
-play_of rows = option_map Play (night_of rows)
+play_of rows = option_map play_job (night_of rows)
 
 -- whether there is no record to take up
 abbrev pub has_no_record : List Row → Bool
@@ -172,7 +175,15 @@ abbrev pub live_with : Option Night → Option Text → Option Bool → Option B
     → Option Text → Option Bool → Option ℕ → Bool → Option Job
 live_with (Some night) record_file (Some resumes) (Some is_spare) (Some start) main_file
     (Some follows) (Some patience) ends_with_input =
-    Some (Live night record_file resumes is_spare start main_file patience ends_with_input)
+    Some (Live night record {
+      record_file = record_file;
+      resumes = resumes;
+      is_spare = is_spare;
+      start = start;
+      main_file = main_file;
+      patience = patience;
+      ends_with_input = ends_with_input;
+    })
 live_with _ _ _ _ _ _ _ _ _ = None
 
 -- the job of `live`, which has those of a night, and `[--record FILE] [--resume] [--spare]
@@ -211,9 +222,9 @@ watch_job rows = option_map Watch (watch_universes (texts_of (codes "UNIVERSES")
 -- the numbers of a job are in the ranges that its run asks for
 abbrev pub IsJobInRange : Job → Type 0
 IsJobInRange (Listen at universe count) = (1 ≤ universe) × (universe ≤ 63999)
-IsJobInRange (Play night) = night.priority ≤ 200
-IsJobInRange (Live night record_file resumes is_spare start main_file patience ends_with_input) =
-    night.priority ≤ 200
+IsJobInRange (Play show to cid priority base) = priority ≤ 200
+IsJobInRange (PlayNight night) = night.priority ≤ 200
+IsJobInRange (Live night options) = night.priority ≤ 200
 IsJobInRange (Watch universes) = All (λ u. (1 ≤ u) × (u ≤ 63999)) universes
 IsJobInRange _ = Unit {0}
 

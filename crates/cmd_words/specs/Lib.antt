@@ -4,6 +4,7 @@ pub mod Target
 pub mod Watched
 pub mod Program
 pub mod Line
+pub mod Plain
 pub mod Job
 pub mod Misfit
 pub mod Asked

@@ -1,10 +1,14 @@
-ghost use Rattle.std.specs.Prelude.{◌≡◌, ℕ, List, IfOk};
-ghost use Rattle.std.specs.String.{string_bytes};
+ghost use Rattle.std.specs.Prelude.{◌≡◌, IfOk, Some};
+ghost use Rattle.cmd_words.specs.Plain.{has_own_options, night_of_play, plain_address, plain_night};
+ghost use Rattle.cmd_words.specs.Plain.{play_job};
 
 use crate::universe_list::UniverseList;
 use std::alloc::{AllocError, Global};
 use std::marker::Model;
-use targets::Targets;
+use targets::{Address, Target, Targets};
+
+// The TTL of multicast where no other is named.
+pub(crate) const PLAIN_TTL: u8 = 1;
 
 /// A name as the words gave it: of a file, a network card or a source. Contracts see its bytes.
 #[derive(Debug, Drop)]
@@ -13,7 +17,11 @@ pub struct Name {
 }
 
 impl Model for Name {
+    ghost use Rattle.std.specs.Prelude.{ℕ, List};
+
     ghost Value = { List ℕ };
+
+    ghost use Rattle.std.specs.String.{string_bytes};
 
     ghost view = { λ name. string_bytes name.text };
 }
@@ -71,14 +79,109 @@ pub struct Night {
     pub ttl: u8,
 }
 
+impl Night {
+    /// The night that the plain words of `play` ask for: its one target is for all universes, and
+    /// each further option is absent.
+    pub fn plain(show: Name, to: ([u8; 4], u16), cid: [u8; 16], priority: u8, base: u16) -> Night
+        ensures { result ≡ plain_night show to cid priority base }
+    {
+        let (host, port) = to;
+        let mut targets = Targets::new();
+        targets.add(Target {
+            universes: None,
+            address: Address { host, port },
+        });
+        Night {
+            show,
+            targets,
+            cid,
+            priority,
+            base,
+            interface: None,
+            any_route: false,
+            name: None,
+            ttl: PLAIN_TTL,
+        }
+    }
+
+    /// The job of `play` that plays this night.
+    pub(crate) fn into_play(self) -> Job
+        ensures job { result ≡ play_job self }
+        ensures night { night_of_play result ≡ Some self }
+    {
+        let Some(to) = self.plain_address() else {
+            return Job::PlayNight(self);
+        };
+        Job::Play {
+            show: self.show,
+            to,
+            cid: self.cid,
+            priority: self.priority,
+            base: self.base,
+        }
+    }
+
+    // The address of the one target of a night that plain words can ask for.
+    fn plain_address(&self) -> Option<([u8; 4], u16)>
+        ensures { result ≡ plain_address self.now }
+    {
+        if self.has_own_options() {
+            return None;
+        }
+        match self.targets.as_slice() {
+            [only] if only.universes.is_none() => Some((only.address.host, only.address.port)),
+            _ => None,
+        }
+    }
+
+    // Whether an option that plain words lack says something else than where it is absent.
+    fn has_own_options(&self) -> bool
+        ensures { result ≡ has_own_options self.now }
+    {
+        self.interface.is_some() || self.any_route || self.name.is_some() || self.ttl != PLAIN_TTL
+    }
+}
+
+/// What `live` has beside the arguments of `play`: `[--record FILE] [--resume] [--spare]
+/// [--start N] [--follow FILE] [--patience MS] [--end-with-input]`.
+#[derive(Debug, Drop)]
+pub struct LiveOptions {
+    /// Where the lines that were played are written to.
+    pub record_file: Option<Name>,
+
+    /// Whether the night goes on in its record, which is named then.
+    pub resumes: bool,
+
+    /// Whether the night is a spare, which resumes.
+    pub is_spare: bool,
+
+    /// The cue that the night starts in, in thousandths, 1 to 9,999,999.
+    pub start: Option<u32>,
+
+    /// The record of another night that this one follows; it neither resumes nor starts in a cue
+    /// then.
+    pub main_file: Option<Name>,
+
+    /// How long the followed record may be silent, in milliseconds, 1 to 60,000 (1,000 where it is
+    /// absent).
+    pub patience: u32,
+
+    /// Whether the night ends where its input ends; else the light holds.
+    pub ends_with_input: bool,
+}
+
 /// What the words ask for: one of the program's lines, with the values of its arguments.
 #[derive(Debug, Drop)]
 pub enum Job {
-    /// `check SHOW [--strict]`: read a show and print its counts. A strict check refuses a show
-    /// that may mean something else than is played.
+    /// `check SHOW`: read a show and print its counts.
     Check {
         show: Name,
-        is_strict: bool,
+    },
+
+    /// `check SHOW --strict`: the same, but a show that may mean something else than is played is
+    /// refused.
+    CheckStrictly {
+        show: Name,
     },
 
     /// `explain SHOW`: print which lines of a show are skipped, and why, and notes for its author.
@@ -109,27 +212,27 @@ pub enum Job {
         base: u16,
     },
 
-    /// `play SHOW --to TARGET.. --cid UUID [--priority P] [--base U] [--interface CARD]
-    /// [--any-route] [--name TEXT] [--ttl HOPS]`: play input lines to the network.
-    Play(Night),
+    /// `play SHOW --to ADDR --cid UUID [--priority P] [--base U]`: play input lines to the network.
+    /// `to` is the IPv4 address and the UDP port of all universes, the CID is the UUID's 16 bytes
+    /// in order, the priority 0 to 200 (100 where it is absent), and the base the number of the
+    /// first universe, 1 to 63,999 (1 where it is absent). [`Night::plain`] is the night.
+    Play {
+        show: Name,
+        to: ([u8; 4], u16),
+        cid: [u8; 16],
+        priority: u8,
+        base: u16,
+    },
 
-    /// `live` with the arguments of `play` and `[--record FILE] [--resume] [--spare] [--start N]
-    /// [--follow FILE] [--patience MS] [--end-with-input]`: play by the clock what is typed.
-    /// `record_file` is where the lines that were played are written to, where a file is named; a
-    /// night that resumes has one, and goes on in it. A spare resumes. The night starts in a cue,
-    /// in thousandths, 1 to 9,999,999, where one is named. Where `main_file` is named, it follows
-    /// the record of another night, until that is silent for `patience` milliseconds, 1 to 60,000
-    /// (1,000 where it is absent); it neither resumes nor starts in a cue then. It ends where its
-    /// input ends, or the light holds.
+    /// `play` with more targets, or one for some universes, or with a card, a name or a TTL that
+    /// the plain form lacks: `[--interface CARD] [--any-route] [--name TEXT] [--ttl HOPS]`.
+    PlayNight(Night),
+
+    /// `live` with the arguments of `play`, and options of its own: play by the clock what is
+    /// typed.
     Live {
         night: Night,
-        record_file: Option<Name>,
-        resumes: bool,
-        is_spare: bool,
-        start: Option<u32>,
-        main_file: Option<Name>,
-        patience: u32,
-        ends_with_input: bool,
+        options: LiveOptions,
     },
 
     /// `rehearse SHOW SCRIPT`: run a script in memory.

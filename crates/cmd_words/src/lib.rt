@@ -23,7 +23,7 @@ mod target;
 mod universe_list;
 
 pub use fault::{Unread, WordsFault};
-pub use job::{Job, Name, Night};
+pub use job::{Job, LiveOptions, Name, Night};
 pub use misfit::{Form, Misfit};
 pub use read::{read_or_explain, read_words};
 pub use source::{name_on, source_name};

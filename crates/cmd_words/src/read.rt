@@ -16,7 +16,7 @@ use crate::arguments::{
     text_at, ttl_at, universe_at, universes_at,
 };
 use crate::fault::{Unread, WordsFault};
-use crate::job::{Job, Name, Night};
+use crate::job::{Job, LiveOptions, Name, Night};
 use crate::program::program;
 use clap::error::ErrorKind;
 use clap::{ArgMatches, Error};
@@ -102,10 +102,11 @@ fn read_check<'a>(alloc: Global, matches: &ArgMatches<'a>) -> Result<Job, Unread
         (misfit_in (codes "check", rows_of (found_of matches.now))) result }
 {
     let show = Name::new(alloc, text_at(matches, "SHOW"))?;
-    Ok(Job::Check {
-        show,
-        is_strict: has_flag(matches, "strict"),
-    })
+    if has_flag(matches, "strict") {
+        Ok(Job::CheckStrictly { show })
+    } else {
+        Ok(Job::Check { show })
+    }
 }
 
 fn read_explain<'a>(alloc: Global, matches: &ArgMatches<'a>) -> Result<Job, Unread<'a>>
@@ -157,7 +158,7 @@ fn read_play<'a>(alloc: Global, matches: &ArgMatches<'a>) -> Result<Job, Unread<
         (misfit_in (codes "play", rows_of (found_of matches.now))) result }
 {
     let night = read_night(alloc, matches)?;
-    Ok(Job::Play(night))
+    Ok(night.into_play())
 }
 
 fn read_live<'a>(alloc: Global, matches: &ArgMatches<'a>) -> Result<Job, Unread<'a>>
@@ -190,8 +191,7 @@ fn read_live_night<'a>(
     let patience = patience_at(matches)?;
     let record_file = name_at(alloc, matches, "record")?;
     let main_file = name_at(alloc, matches, "follow")?;
-    Ok(Job::Live {
-        night,
+    let options = LiveOptions {
         record_file,
         resumes,
         is_spare,
@@ -199,7 +199,8 @@ fn read_live_night<'a>(
         main_file,
         patience,
         ends_with_input: has_flag(matches, "end-with-input"),
-    })
+    };
+    Ok(Job::Live { night, options })
 }
 
 // The night of a line that plays, where each of its texts has its form.

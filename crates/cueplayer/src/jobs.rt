@@ -6,7 +6,7 @@ use crate::live_job::{LiveWords, MainWords, play_live};
 use crate::reading::{file_text, script_text, show_text};
 use crate::standard::HeldStandard;
 use cmd_faults::RunFault;
-use cmd_words::{Job, Name};
+use cmd_words::{Job, LiveOptions, Name, Night};
 use fade_core::StepFader;
 use remarks::{Failure, JobFault, Remark};
 use show_jobs::{CueLook, CueSlots, check_show, explain_show, list_cues, look_at, show_slots};
@@ -22,35 +22,21 @@ pub fn run(rt: &HostRuntime, job: Job, has_remarks: bool) -> Result<Remark, JobF
     requires { IsJobInRange job }
 {
     match job {
-        Job::Check { show, is_strict } => return check_file(rt, show.as_str(), is_strict),
+        Job::Check { show } => return check_file(rt, show.as_str(), false),
+        Job::CheckStrictly { show } => return check_file(rt, show.as_str(), true),
         Job::Look { show, cue, cid } => return Ok(look_at_file(rt, show.as_str(), cue, cid)?),
         Job::Slots { show, cue, base } => return Ok(show_file(rt, show.as_str(), cue, base)?),
-        Job::Play(night) => return play_lines(rt, &night),
+        Job::Play {
+            show,
+            to,
+            cid,
+            priority,
+            base,
+        } => return play_lines(rt, &Night::plain(show, to, cid, priority, base)),
+        Job::PlayNight(night) => return play_lines(rt, &night),
         Job::Explain { show } => explain_file(rt, show.as_str())?,
         Job::Cues { show, is_json } => list_file(rt, show.as_str(), is_json)?,
-        Job::Live {
-            night,
-            record_file,
-            resumes,
-            is_spare,
-            start,
-            main_file,
-            patience,
-            ends_with_input,
-        } => {
-            let words = LiveWords {
-                record_file: record_file.as_ref().map(Name::as_str),
-                resumes,
-                is_spare,
-                start,
-                main: main_file.as_ref().map(|file| MainWords {
-                    file: file.as_str(),
-                    patience,
-                }),
-                ends_with_input,
-            };
-            play_live(rt, night, words)?
-        }
+        Job::Live { night, options } => live(rt, night, &options)?,
         Job::Rehearse { show, script } => rehearse(rt, show.as_str(), script.as_str())?,
         Job::Listen {
             at,
@@ -99,6 +85,24 @@ fn show_file(rt: &HostRuntime, show: &str, cue: u32, base: u16) -> Result<Remark
     let show = text.as_slice();
     let slots = CueSlots { show, cue, base };
     show_slots(rt.alloc(), slots, &mut output(rt))
+}
+
+fn live(rt: &HostRuntime, night: Night, options: &LiveOptions) -> Result<(), JobFault>
+    requires { night.priority ≤ 200 }
+{
+    let main = options.main_file.as_ref().map(|file| MainWords {
+        file: file.as_str(),
+        patience: options.patience,
+    });
+    let words = LiveWords {
+        record_file: options.record_file.as_ref().map(Name::as_str),
+        resumes: options.resumes,
+        is_spare: options.is_spare,
+        start: options.start,
+        main,
+        ends_with_input: options.ends_with_input,
+    };
+    play_live(rt, night, words)
 }
 
 fn listen(

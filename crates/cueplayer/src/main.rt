@@ -1,5 +1,6 @@
 //! The program: it reads its words, runs what they ask for, and reports how that ended. What its
 //! commands promise together, from the lines of a play to the light on the stage, is in [`laws`].
+//! The calls that its commands make stand in the crates below, and it passes them on.
 #![tactic(auto)]
 
 mod cards;
@@ -23,7 +24,14 @@ mod start_lines;
 mod system_night;
 mod words;
 
-use cmd_words::{Unread, WordsFault, read_or_explain, read_words};
+pub use cmd_faults::{RunFault, exit_status};
+pub use cmd_listen::listen;
+pub use cmd_play::play;
+pub use cmd_rehearse::rehearse_text;
+pub use cmd_show::{check, look};
+use cmd_words::{Unread, read_or_explain};
+pub use cmd_words::{Job, Name, WordsFault, read_words};
+pub use devices::{Datagrams, Feed, Output};
 use jobs::run;
 use remarked::has_remarks;
 use remarks::{JobEnd, JobFault, Remark};
