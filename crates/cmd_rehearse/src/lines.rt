@@ -6,12 +6,12 @@ use crate::reply::print_reply;
 use devices::{LinkFault, Output};
 use sacn_packet::Slots;
 use sacn_receiver::end_line;
-use wire_world::{Reply, Report};
+use wire_world::{CompactReply, CompactReport};
 
 // Prints what came of a script, line by line.
 pub(crate) fn print_lines<W: Output>(
     numbers: &[u32],
-    report: &Report,
+    report: &CompactReport,
     out: &mut W,
 ) -> Result<(), LinkFault>
     requires { length report.now.last ≤ 8 }
@@ -27,7 +27,7 @@ pub(crate) fn print_lines<W: Output>(
 // Prints the replies to the events, each behind the number of its line.
 fn print_replies<W: Output>(
     numbers: &[u32],
-    replies: &[Reply],
+    replies: &[CompactReply],
     out: &mut W,
 ) -> Result<(), LinkFault>
     ensures told { W.tells out.new → W.tells out.old }

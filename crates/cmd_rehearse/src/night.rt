@@ -8,14 +8,14 @@ use cmd_faults::RunFault;
 use fade_core::Fader;
 use show_reader::read_show;
 use std::alloc::Global;
-use wire_world::{Report, rehearse};
+use wire_world::{CompactReport, rehearse_compactly};
 
 // What came of a script.
 #[derive(Debug, Drop)]
 pub(crate) struct Rehearsed {
     // Of each event the number of its line.
     pub numbers: Vec<u32>,
-    pub report: Report,
+    pub report: CompactReport,
 }
 
 // Rehearses a script over a show.
@@ -33,7 +33,7 @@ pub(crate) fn rehearse_script<F: Fader>(
     let loaded = read_show(alloc, show)?;
     let script = script_in(alloc, script)?;
     let shows = [loaded.show];
-    let report = rehearse::<F>(
+    let report = rehearse_compactly::<F>(
         alloc,
         &shows,
         script.consoles.as_slice(),

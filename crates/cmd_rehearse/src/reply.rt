@@ -9,25 +9,25 @@ use desk_core::{Refused, Ticked};
 use devices::{LinkFault, Output};
 use sacn_packet::Slots;
 use sacn_receiver::{Ignored, SlotsLine, Taken, reply_line, write_numbered_slots};
-use wire_world::{Reply, Skip};
+use wire_world::{CompactReply, Reply, Skip};
 
 // Prints the reply to an event by one write, behind the number of the event's line.
 pub(crate) fn print_reply<W: Output>(
     number: u32,
-    reply: &Reply,
+    reply: &CompactReply,
     out: &mut W,
 ) -> Result<(), LinkFault>
     ensures { PrintsLine W.tells W.tape result (event_line (number, reply.now)) out.old out.new }
 {
     let number = u64::from(number);
-    match reply {
+    match reply.reply() {
         Reply::Done => print_done(number, out),
-        Reply::Refused(refused) => print_refused(number, *refused, out),
-        Reply::Ticked(ticked, offers) => print_ticked(number, *ticked, &offers.offers(), out),
-        Reply::Taken(taken) => print_taken(number, Ok(*taken), out),
-        Reply::Ignored(reason) => print_taken(number, Err(*reason), out),
-        Reply::Shown(shown) => print_slots(number, shown.slots(), out),
-        Reply::Skipped(skip) => print_skipped(number, *skip, out),
+        Reply::Refused(refused) => print_refused(number, refused, out),
+        Reply::Ticked(ticked, offers) => print_ticked(number, ticked, &offers, out),
+        Reply::Taken(taken) => print_taken(number, Ok(taken), out),
+        Reply::Ignored(reason) => print_taken(number, Err(reason), out),
+        Reply::Shown(slots) => print_slots(number, &slots, out),
+        Reply::Skipped(skip) => print_skipped(number, skip, out),
     }
 }
 

@@ -1,17 +1,17 @@
 -- What is promised of a rehearsal, by its report.
-use Rattle.std.specs.Prelude.{◌≡◌, ◌<◌, ◌⊎◌, ℕ, List, IsTrue, None, Some, slice_get, slice_index}
-use Rattle.std.specs.Prelude.{take}
+use Rattle.std.specs.Prelude.{◌≡◌, ◌<◌, ◌≤◌, ◌⊎◌, ℕ, List, IsTrue, None, Some, length}
+use Rattle.std.specs.Prelude.{slice_get, slice_index, take}
 use Rattle.desk_core.specs.Meaning.{dark}
 use Rattle.sacn_receiver.specs.Shown.{merged_slot}
 use Rattle.wire_world.specs.declared.event.Event.{Event}
 use Rattle.wire_world.specs.declared.event.What.TheVariants.{Deliver}
-use Rattle.wire_world.specs.World.{World, universe_at}
+use Rattle.wire_world.specs.World.{World, IsWorld, universe_at}
 use Rattle.wire_world.specs.Delivery.{deliveries}
 use Rattle.wire_world.specs.Happened.{packets_sent}
 use Rattle.wire_world.specs.Laws.{AreSettled, CidsDiffer, HearsAll, HearsOne, IsFresh, IsOneOf}
 use Rattle.wire_world.specs.Laws.{IsUnpatched, NoStray, is_silent, lights, meant_slots}
 use Rattle.wire_world.specs.Replies.{events_done, skip_of}
-use Rattle.wire_world.specs.Reported.{RehearsalReport}
+use Rattle.wire_world.specs.Reported.{IsReportOf, RehearsalReport}
 use Rattle.wire_world.specs.Shows.{IsShown, reply_alone}
 
 -- THE HEADLINE. Where receiver r hears console i alone, and the newest packet that the console has
@@ -67,3 +67,11 @@ pub record IsPromised (w : World) (events : List Event) (report : RehearsalRepor
   pub window_law : ShowsOnePacket w events report
   pub merge_law : ShowsMerge w events report
   pub independent : AnswersAlone w events report
+
+-- this is what a rehearsal of at most four consoles answers: the replies to the events and the slots
+-- after them, and all of the promise
+pub record IsRehearsed (w : World) (events : List Event) (report : RehearsalReport) : Type 0 where
+  pub world : IsWorld w
+  pub few : length w.consoles ≤ 4
+  pub came : IsReportOf w events report
+  pub promised : IsPromised w events report

@@ -1,11 +1,17 @@
 -- Replies in little room.
 -- Of use inside the crate: what its public calls answer is said without these.
-use Rattle.std.specs.Prelude.{ℕ, List}
-use Rattle.sacn_source.specs.declared.offered.Offered.{Offered}
-use Rattle.wire_world.specs.declared.tick_offers.Kept.{Kept}
-use Rattle.wire_world.specs.declared.tick_offers.Kept.TheVariants.{Few, Many}
+use Rattle.wire_world.specs.declared.compact_reply.Kept.{Kept}
+use Rattle.wire_world.specs.declared.compact_reply.Kept.TheVariants as kept
+use Rattle.wire_world.specs.declared.reply.Reply.{Reply}
+use Rattle.wire_world.specs.declared.reply.Reply.TheVariants as reply
 
--- the offers that are kept so
-abbrev pub stored_offers : Kept → List (ℕ × Offered)
-stored_offers (Few offers) = offers
-stored_offers (Many offers) = offers.value
+-- the reply that is kept so
+abbrev pub reply_kept : Kept → Reply
+reply_kept kept.Done = reply.Done
+reply_kept (kept.Refused refused) = reply.Refused refused
+reply_kept (kept.Ticked ticked offers) = reply.Ticked ticked offers
+reply_kept (kept.TickedMany ticked offers) = reply.Ticked ticked offers.value
+reply_kept (kept.Taken taken) = reply.Taken taken
+reply_kept (kept.Ignored ignored) = reply.Ignored ignored
+reply_kept (kept.Shown slots) = reply.Shown slots.value
+reply_kept (kept.Skipped skip) = reply.Skipped skip

@@ -1,7 +1,6 @@
 ghost use Rattle.std.specs.Prelude.{◌≡◌, ◌≤◌, ◌↔◌, IfSome, IsSome, length};
 
 use crate::Offers;
-use crate::tick_offers::offers_in;
 use sacn_source::Offered;
 use std::marker::Model;
 
@@ -49,4 +48,16 @@ impl FewOffers {
     {
         offers_in(&self.pairs[..usize::from(self.count)])
     }
+}
+
+// These pairs as offers.
+pub(crate) fn offers_in(pairs: &[(u16, Offered)]) -> Offers
+    requires { length pairs.now ≤ 16 }
+    ensures { result ≡ pairs.now }
+{
+    let mut offers = Offers::new();
+    for (universe, offered) in pairs {
+        offers.push(*universe, *offered);
+    }
+    offers
 }

@@ -13,7 +13,7 @@ use crate::handover::Handover;
 use crate::happening::Happening;
 use crate::stage::Stage;
 use crate::steps::{deliver_at, hear_at, order_at, show_at, tick_at};
-use crate::{Reply, What};
+use crate::{CompactReply, What};
 use fade_core::Fader;
 use sacn_receiver::Receiver;
 use std::alloc::{AllocError, Global};
@@ -24,7 +24,7 @@ pub(crate) fn happen<F: Fader>(
     stages: &mut [Stage<F>],
     receivers: &mut [Receiver],
     happening: Happening<'_>,
-) -> Result<Reply, AllocError>
+) -> Result<CompactReply, AllocError>
     requires real { (w : World) × (past : List EventData)
         × ConsolesStand (StageStands F.stands_for) stages.old w past }
     requires early { AllBy receivers.old happening.event.moment }

@@ -15,6 +15,7 @@
 #![tactic(auto)]
 
 mod answers;
+mod compact_reply;
 mod event;
 mod few_offers;
 mod handover;
@@ -37,18 +38,15 @@ mod setup;
 mod shelf;
 mod shelves;
 mod showing;
-mod shown_slots;
 mod stage;
 mod step;
 mod steps;
-mod tick_offers;
 
+pub use compact_reply::CompactReply;
 pub use console::Offers;
 pub use event::{Event, What};
-pub use rehearsal::rehearse;
+pub use rehearsal::{rehearse, rehearse_compactly};
 pub use rehearsal_faults::Fault;
 pub use reply::{Reply, Skip};
-pub use report::Report;
+pub use report::{CompactReport, Report};
 pub use setup::Setup;
-pub use shown_slots::ShownSlots;
-pub use tick_offers::TickOffers;

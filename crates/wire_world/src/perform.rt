@@ -7,7 +7,7 @@ use crate::lows::last_wanted;
 use crate::opening::open_all;
 use crate::replay::run;
 use crate::stage::Stage;
-use crate::{Event, Report, Setup};
+use crate::{CompactReport, Event, Setup};
 use fade_core::Fader;
 use show_core::Show;
 use std::alloc::{AllocError, Global};
@@ -20,7 +20,7 @@ pub(crate) fn perform<F: Fader>(
     receivers: &[u16],
     events: &[Event],
     strays: &[u8],
-) -> Result<Report, AllocError>
+) -> Result<CompactReport, AllocError>
     requires shows { All (λ s. s.show < length shows.now) consoles.now }
     requires universes { All (λ u. (1 ≤ u) × (u ≤ 63999)) receivers.now }
     requires within { All (λ e. StrayFits (length strays.now) e.what) events.now }

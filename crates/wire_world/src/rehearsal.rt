@@ -1,6 +1,6 @@
 ghost use Rattle.std.specs.Prelude.{◌≡◌, ◌≤◌, length, IfOk, OnOk, IsTrue};
-ghost use Rattle.wire_world.specs.Promised.{AnswersAlone, ShowsMeaning, ShowsMerge, ShowsOnePacket};
-ghost use Rattle.wire_world.specs.Promised.{ShowsUnpatchedAsZero};
+ghost use Rattle.wire_world.specs.Promised.{AnswersAlone, IsRehearsed, ShowsMeaning, ShowsMerge};
+ghost use Rattle.wire_world.specs.Promised.{ShowsOnePacket, ShowsUnpatchedAsZero};
 ghost use Rattle.wire_world.specs.Refusing.{AnswersSetup, are_within, setup_fault};
 ghost use Rattle.wire_world.specs.Replies.{AreReplies, events_done, last_slots};
 ghost use Rattle.wire_world.specs.Stands.{world_of};
@@ -8,7 +8,7 @@ ghost use Rattle.wire_world.specs.World.{IsWorld};
 
 use crate::perform::perform;
 use crate::setup::check;
-use crate::{Event, Fault, Report, Setup};
+use crate::{CompactReport, Event, Fault, Report, Setup};
 use fade_core::Fader;
 use show_core::Show;
 use std::alloc::{AllocError, Global};
@@ -25,7 +25,7 @@ use std::alloc::{AllocError, Global};
 /// # Errors
 ///
 /// The first reason of [`Fault`] that applies; then nothing is rehearsed. `Memory` if an allocation
-/// failed.
+/// failed. A reply takes over 512 bytes: [`rehearse_compactly`] answers a long list in less room.
 pub fn rehearse<F: Fader>(
     alloc: Global,
     shows: &[Show],
@@ -59,6 +59,31 @@ pub fn rehearse<F: Fader>(
         IfOk result (ShowsMerge w events.now) }
     ensures independent { let w = world_of shows.now consoles.now receivers.now strays.now in
         IfOk result (AnswersAlone w events.now) }
+{
+    let compact = rehearse_compactly::<F>(alloc, shows, consoles, receivers, events, strays)?;
+    match compact.report(alloc) {
+        Ok(report) => Ok(report),
+        Err(AllocError) => Err(Fault::Memory),
+    }
+}
+
+/// The same, with each reply in little room. All that is promised of [`rehearse`] holds.
+///
+/// # Errors
+///
+/// As of [`rehearse`].
+pub fn rehearse_compactly<F: Fader>(
+    alloc: Global,
+    shows: &[Show],
+    consoles: &[Setup],
+    receivers: &[u16],
+    events: &[Event],
+    strays: &[u8],
+) -> Result<CompactReport, Fault>
+    requires within { IsTrue (are_within (length strays.now) events.now) }
+    ensures faults { AnswersSetup (setup_fault shows.now consoles.now receivers.now) result }
+    ensures rehearsed { let w = world_of shows.now consoles.now receivers.now strays.now in
+        IfOk result (IsRehearsed w events.now) }
 {
     check(shows, consoles, receivers)?;
     match perform::<F>(alloc, shows, consoles, receivers, events, strays) {

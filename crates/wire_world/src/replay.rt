@@ -11,7 +11,7 @@ use crate::releasing::release;
 use crate::showing::show_all;
 use crate::stage::Stage;
 use crate::step::step;
-use crate::{Event, Report};
+use crate::{CompactReport, Event};
 use fade_core::Fader;
 use sacn_receiver::Receiver;
 use std::alloc::{AllocError, Global};
@@ -23,7 +23,7 @@ pub(crate) fn run<F: Fader>(
     receivers: &mut [Receiver],
     strays: &[u8],
     events: &[Event],
-) -> Result<Report, AllocError>
+) -> Result<CompactReport, AllocError>
     requires within { All (λ e. StrayFits (length strays.now) e.what) events.now }
     requires wanted { All (λ stage. AreUpTo events.now stage.last) stages.old }
     requires begun { (w : World) × (w.strays ≡ strays.now)
@@ -43,5 +43,5 @@ pub(crate) fn run<F: Fader>(
         replies.push(reply)?;
     }
     let last = show_all(alloc, receivers, last)?;
-    Ok(Report { replies, last })
+    Ok(CompactReport { replies, last })
 }

@@ -1,7 +1,7 @@
-use crate::shown_slots::ShownSlots;
-use crate::tick_offers::TickOffers;
+use crate::Offers;
 use desk_core::{Refused, Ticked};
 use sacn_receiver::{Ignored, Taken};
+use show_core::Frame;
 use thiserror::Error;
 
 /// Why an event was skipped. Of several reasons the first of these is given. A skipped event
@@ -25,7 +25,7 @@ pub enum Skip {
     NotSent,
 }
 
-/// The reply to an event, in little room: what is large lies in a box.
+/// The reply to an event.
 #[derive(Debug, Drop)]
 pub enum Reply {
     /// A command was carried out.
@@ -33,13 +33,13 @@ pub enum Reply {
     /// A command or a tick was refused.
     Refused(Refused),
     /// A tick, and what became of the frames of its console's universes.
-    Ticked(Ticked, TickOffers),
+    Ticked(Ticked, Offers),
     /// A datagram was accepted.
     Taken(Taken),
     /// A datagram was ignored.
     Ignored(Ignored),
     /// The slots of a receiver, each 0 to 255.
-    Shown(ShownSlots),
+    Shown(Frame),
     /// The event was skipped.
     Skipped(Skip),
 }

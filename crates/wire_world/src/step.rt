@@ -6,20 +6,21 @@ ghost use Rattle.wire_world.specs.Replies.{last_event_moment};
 ghost use Rattle.wire_world.specs.Stands.{AllAre, ConsolesStand, AllBy, IsStep, StrayFits, is_skip};
 ghost use Rattle.wire_world.specs.Wanted.{Holds, span_at};
 
+use crate::compact_reply::Kept;
 use crate::happen::happen;
 use crate::happening::Happening;
 use crate::stage::Stage;
-use crate::{Reply, Skip};
+use crate::{CompactReply, Skip};
 use desk_core::MOMENTS;
 use fade_core::Fader;
 use sacn_receiver::Receiver;
 use std::alloc::{AllocError, Global};
 
-fn later(last: u64, moment: u64, reply: &Reply) -> u64
+fn later(last: u64, moment: u64, reply: &CompactReply) -> u64
     ensures { result ≡ (if is_skip reply.now then last else moment) }
 {
-    match reply {
-        Reply::Skipped(_) => last,
+    match &reply.0 {
+        Kept::Skipped(_) => last,
         _ => moment,
     }
 }
@@ -31,7 +32,7 @@ pub(crate) fn step<F: Fader>(
     receivers: &mut [Receiver],
     last: &mut u64,
     happening: Happening<'_>,
-) -> Result<Reply, AllocError>
+) -> Result<CompactReply, AllocError>
     requires real { (w : World) × (past : List EventData)
         × ConsolesStand (StageStands F.stands_for) stages.old w past }
     requires early { AllBy receivers.old last.old }
@@ -47,10 +48,10 @@ pub(crate) fn step<F: Fader>(
 {
     let event = happening.event;
     if event.moment < *last {
-        return Ok(Reply::Skipped(Skip::Backwards));
+        return Ok(CompactReply(Kept::Skipped(Skip::Backwards)));
     }
     if event.moment >= MOMENTS {
-        return Ok(Reply::Skipped(Skip::TooLarge));
+        return Ok(CompactReply(Kept::Skipped(Skip::TooLarge)));
     }
     let reply = happen(alloc, stages, receivers, happening)?;
     *last = later(*last, event.moment, &reply);

@@ -11,11 +11,11 @@ ghost use Rattle.wire_world.specs.Replies.{lack_skip, no_receiver_at, event_repl
 ghost use Rattle.wire_world.specs.Stands.{ConsolesStand, AllHear, AllTell, AllBy, unless_skipped};
 ghost use Rattle.wire_world.specs.Wanted.{Holds, hands_over, span_at};
 
+use crate::Skip;
 use crate::answers::{datagram_reply, order_reply, tick_reply};
+use crate::compact_reply::{CompactReply, Kept};
 use crate::handover::Handover;
-use crate::shown_slots::ShownSlots;
 use crate::stage::Stage;
-use crate::{Reply, Skip};
 use desk_core::Command;
 use fade_core::Fader;
 use sacn_receiver::Receiver;
@@ -26,7 +26,7 @@ pub(crate) fn order_at<F: Fader>(
     console: u16,
     moment: u64,
     command: Command,
-) -> Reply
+) -> CompactReply
     ensures tell { AllTell LinkTells stages.old → AllTell LinkTells stages.new }
     ensures spans { (i u : ℕ) → span_at stages.new i u ≡ span_at stages.old i u }
     ensures reply { (w : World) (past : List EventData) → ConsolesStand
@@ -40,7 +40,7 @@ pub(crate) fn order_at<F: Fader>(
 {
     let i = usize::from(console);
     if i >= stages.len() {
-        return Reply::Skipped(Skip::NoConsole);
+        return CompactReply(Kept::Skipped(Skip::NoConsole));
     }
     order_reply(stages[i].order(moment, command))
 }
@@ -50,7 +50,7 @@ pub(crate) fn tick_at<F: Fader>(
     stages: &mut [Stage<F>],
     console: u16,
     moment: u64,
-) -> Result<Reply, AllocError>
+) -> Result<CompactReply, AllocError>
     requires real { (w : World) × (past : List EventData)
         × ConsolesStand (StageStands F.stands_for) stages.old w past }
     ensures tell { OnOk result (AllTell LinkTells stages.old → AllTell LinkTells stages.new) }
@@ -66,7 +66,7 @@ pub(crate) fn tick_at<F: Fader>(
 {
     let i = usize::from(console);
     if i >= stages.len() {
-        return Ok(Reply::Skipped(Skip::NoConsole));
+        return Ok(CompactReply(Kept::Skipped(Skip::NoConsole)));
     }
     let stage = &mut stages[i];
     let answer = stage.tick(alloc, moment);
@@ -82,7 +82,7 @@ pub(crate) fn hear_at(
     receiver: u16,
     moment: u64,
     datagram: &[u8],
-) -> Reply
+) -> CompactReply
     ensures reply { (w : World) (past : List EventData) → AllHear receivers.old w past
         → result ≡ option_map_or reply.Skipped (no_receiver_at w receiver)
         (datagram_reply w receiver past moment datagram.now) }
@@ -94,7 +94,7 @@ pub(crate) fn hear_at(
 {
     let r = usize::from(receiver);
     if r >= receivers.len() {
-        return Reply::Skipped(Skip::NoReceiver);
+        return CompactReply(Kept::Skipped(Skip::NoReceiver));
     }
     datagram_reply(receivers[r].take(moment, datagram))
 }
@@ -106,7 +106,7 @@ pub(crate) fn show_at(
     receivers: &[Receiver],
     receiver: u16,
     moment: u64,
-) -> Result<Reply, AllocError>
+) -> Result<CompactReply, AllocError>
     requires { AllBy receivers.now moment }
     ensures { IfOk result (λ r. (w : World) (past : List EventData) → AllHear receivers.now w past
         → r ≡ option_map_or reply.Skipped (lack_skip w past (Show receiver))
@@ -114,12 +114,12 @@ pub(crate) fn show_at(
 {
     let r = usize::from(receiver);
     if r >= receivers.len() {
-        return Ok(Reply::Skipped(Skip::NoReceiver));
+        return Ok(CompactReply(Kept::Skipped(Skip::NoReceiver)));
     }
     let mut slots = [0; 512];
     receivers[r].slots(moment, &mut slots);
-    let slots = ShownSlots::new(alloc, slots)?;
-    Ok(Reply::Shown(slots))
+    let slots = Box::new(alloc, slots)?;
+    Ok(CompactReply(Kept::Shown(slots)))
 }
 
 // A packet of a console reaches a receiver.
@@ -128,7 +128,7 @@ pub(crate) fn deliver_at<F: Fader>(
     receivers: &mut [Receiver],
     moment: u64,
     handover: Handover,
-) -> Reply
+) -> CompactReply
     requires { Holds stages.now (hands_over handover) }
     ensures reply { (w : World) (past : List EventData) → ConsolesStand
         (StageStands F.stands_for) stages.now w past → AllTell LinkTells stages.now
@@ -143,13 +143,13 @@ pub(crate) fn deliver_at<F: Fader>(
 {
     let i = usize::from(handover.console);
     if i >= stages.len() {
-        return Reply::Skipped(Skip::NoConsole);
+        return CompactReply(Kept::Skipped(Skip::NoConsole));
     }
     if usize::from(handover.receiver) >= receivers.len() {
-        return Reply::Skipped(Skip::NoReceiver);
+        return CompactReply(Kept::Skipped(Skip::NoReceiver));
     }
     match stages[i].datagram(handover.universe, handover.k) {
-        None => Reply::Skipped(Skip::NotSent),
+        None => CompactReply(Kept::Skipped(Skip::NotSent)),
         Some(bytes) => hear_at(receivers, handover.receiver, moment, bytes),
     }
 }

@@ -65,14 +65,12 @@ fn is_told(reply: &Reply, told: Told) -> bool {
     match (reply, told) {
         (Reply::Done, Told::Done) => true,
         (Reply::Refused(refused), Told::Refused(wanted)) => *refused == wanted,
-        (Reply::Ticked(Ticked::Live, offers), Told::Live(number)) => {
-            has_sent(&offers.offers(), number)
-        }
+        (Reply::Ticked(Ticked::Live, offers), Told::Live(number)) => has_sent(offers, number),
         (Reply::Taken(taken), Told::Taken(number)) => {
             taken.sequence == number && !taken.terminated
         }
         (Reply::Ignored(ignored), Told::Ignored(wanted)) => *ignored == wanted,
-        (Reply::Shown(shown), Told::Shown(first)) => shows(shown.slots(), first),
+        (Reply::Shown(slots), Told::Shown(first)) => shows(slots, first),
         (Reply::Skipped(skip), Told::Skipped(wanted)) => *skip == wanted,
         _ => false,
     }

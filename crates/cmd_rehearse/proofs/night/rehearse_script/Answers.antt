@@ -2,8 +2,8 @@ use Rattle.std.proofs.Common.{◌≡◌, ◌∷◌, [], Result, Ok, Err, IsErrAn
 use Rattle.std.proofs.Common.{refl, ap, sym, subst, ◌∙◌}
 use Rattle.cmd_rehearse.specs.Script.{Parts, parts}
 use Rattle.wire_world.specs.Refusing.{setup_fault}
-use Rattle.wire_world.specs.Promised.{IsPromised}
-use Rattle.wire_world.specs.Reported.{IsReportOf, RehearsalReport}
+use Rattle.wire_world.specs.Promised.{IsRehearsed}
+use Rattle.wire_world.specs.Reported.{RehearsalReport}
 use Rattle.cmd_rehearse.specs.Printed.{world}
 use Rattle.cmd_faults.specs.declared.fault.RunFault.{RunFault}
 use Rattle.wire_world.proofs.Refusals.{no_fault}
@@ -51,18 +51,10 @@ returns g c =
     let report = c.in_ok-report.report in
     let ensures = c.in_ok-report.ensures in
     let none = no_fault (setup_fault (s ∷ []) p.consoles p.receivers) report ensures.faults in
-    let came : IsReportOf (world s p) p.events report =
-    record { replies = ensures.replies; last = ensures.last } in
-    let promised : IsPromised (world s p) p.events report = record {
-      headline = ensures.headline;
-      unpatched = ensures.unpatched;
-      window_law = ensures.window_law;
-      merge_law = ensures.merge_law;
-      independent = ensures.independent;
-    } in
+    let rehearsed : IsRehearsed (world s p) p.events report = ensures.rehearsed in
     record {
       set_up = set_up c.args.show.now c.args.script.now s p _ read none;
-      lines = lines_of c.args.show.now c.args.script.now s p report read came promised;
-      few = few_receivers s p report none came;
+      lines = lines_of c.args.show.now c.args.script.now s p report read rehearsed.came rehearsed.promised;
+      few = few_receivers s p report none rehearsed.came;
       fault = tt;
     }

@@ -1,5 +1,5 @@
 use Rattle.std.proofs.Common.{◌≡◌, take}
-use Rattle.wire_world.proofs.tick_offers.offers_in.Given as goal
+use Rattle.wire_world.proofs.few_offers.offers_in.Given as goal
 
 -- the offers so far
 abbrev pub invariant-loop-universe : goal.invariant-loop-universe

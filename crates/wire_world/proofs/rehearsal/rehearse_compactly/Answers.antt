@@ -1,8 +1,9 @@
 use Rattle.std.proofs.Common.{length, ap, sym, ◌∙◌}
+use Rattle.wire_world.specs.Promised.{IsPromised}
 use Rattle.wire_world.proofs.Terms.{result_err, world_of}
 use Rattle.wire_world.proofs.Shown.{answers_alone, means, merges, near, silence, was_shown, zero}
 use Rattle.wire_world.proofs.Refusals.{all_within, fine_world, universes_there}
-use Rattle.wire_world.proofs.rehearsal.rehearse.Goals as goal
+use Rattle.wire_world.proofs.rehearsal.rehearse_compactly.Goals as goal
 
 pub perform-requires-clause-universes : goal.perform-requires-clause-universes
 perform-requires-clause-universes g c = let r = c.args in
@@ -24,12 +25,7 @@ returns-in-Ok g c =
     let are = c.in-Ok.ensures.report.replies in
     let last = c.in-Ok.ensures.report.last in
     let at = was_shown w events _ _ are last in
-    record {
-      faults = rw none tt;
-      world = fine.0;
-      few = fine.1;
-      replies = are;
-      last = last;
+    let promised : IsPromised w events c.in-Ok.report = record {
       headline = λ r i t past slots shown one fresh. let k = at r t past slots shown in
           k.are ∙ means w fine.0 r past k.run one.no_stray t k.time i one.window one.alone fresh;
       unpatched = λ r i t slot past slots shown one fresh below none.
@@ -44,4 +40,13 @@ returns-in-Ok g c =
       merge_law = λ r t slot past slots shown all settled below. let k = at r t past slots shown in
           rw k.are (merges w fine.0 r past k.run t k.time all settled slot below);
       independent = answers_alone w events _ fine.0 are fine.1;
+    } in
+    record {
+      faults = rw none tt;
+      rehearsed = record {
+        world = fine.0;
+        few = fine.1;
+        came = c.in-Ok.ensures.report;
+        promised = promised;
+      };
     }
