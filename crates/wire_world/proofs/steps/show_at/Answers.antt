@@ -14,6 +14,6 @@ returns c = λ w past all.
     let at = at_number c.args.receivers.now _ _ _ c.from-r.ensures c.if-r-receivers.false
     c.index-receivers-r.is in
     rw (there all c.args.receiver c.index-receivers-r.result at)
-    (ap reply.Shown (c.in_ok-slots.ensures
+    (ap reply.Shown (c.in_ok-slots.ensures.ok
     ∙ c.slots.ensures (accepted_by w c.args.receiver past)
     (all.stand c.args.receiver c.index-receivers-r.result at)))
