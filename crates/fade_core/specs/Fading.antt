@@ -1,4 +1,4 @@
--- What a fader keeps.
+-- What a step fader keeps.
 -- Of use inside the crate: what its public calls answer is said without these.
 use Rattle.std.specs.Prelude.{◌≡◌, ℕ, ◌-◌, ◌^◌, ◌<◌, ◌≤◌, List, length, slice_index}
 use Rattle.show_core.specs.Numbers.{AreLevels}

@@ -4,5 +4,5 @@ pub mod Fading
 pub mod Share
 pub mod Digits
 pub mod Stepping
-pub mod Course
+pub mod Step
 pub mod Plain

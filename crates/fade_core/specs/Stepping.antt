@@ -1,4 +1,4 @@
--- What a fader keeps besides.
+-- What a step fader keeps besides.
 -- Of use inside the crate: what its public calls answer is said without these.
 use Rattle.std.specs.Prelude.{◌≡◌, ◌≢◌, ℕ, ◌+◌, ◌<◌, ◌≤◌, List, length, slice_index}
 use Rattle.fade_core.specs.Fading.{Fading, level_at}

@@ -16,7 +16,6 @@
 #![tactic(auto)]
 
 mod channel_fade;
-mod course;
 mod digits;
 mod fader;
 pub mod laws;

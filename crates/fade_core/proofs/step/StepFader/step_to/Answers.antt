@@ -3,11 +3,11 @@ use Rattle.std.specs.Vec.{with_items}
 use Rattle.std.proofs.lemmas.List.{with_items_is}
 use Rattle.fade_core.specs.Level.{split_fade}
 use Rattle.fade_core.specs.Share.{AreMoved, level_between}
-use Rattle.fade_core.specs.Course.{course_view}
+use Rattle.fade_core.specs.Step.{step_view}
 use Rattle.fade_core.specs.Fading.{Fading, IsFading, level_at}
 use Rattle.fade_core.specs.Stepping.{LevelsStand, IsUnlisted}
-use Rattle.fade_core.proofs.course.Course.step_to.Goals.{then-are_whole, else-are_whole}
-use Rattle.fade_core.proofs.course.Course.step_to.Goals as goal
+use Rattle.fade_core.proofs.step.StepFader.step_to.Goals.{then-are_whole, else-are_whole}
+use Rattle.fade_core.proofs.step.StepFader.step_to.Goals as goal
 
 -- as a fade moves on
 fading_moved : (f : Fading) (moment : ℕ) → f.latest ≤ moment → IsFading f
@@ -82,7 +82,7 @@ invariant_of-self c =
     let are : AreMoved old.from.items old.to.items written.items c.at-shares.result.rising
     c.at-shares.result.falling =
     rw (levels, ← c.deref.ensures.value, ← c.deref-2.ensures.value) c.bring.ensures in
-    let now_fading = fading_moved (course_view old) moment not_before fading in
+    let now_fading = fading_moved (step_view old) moment not_before fading in
     elim c.if-are_whole.branch [
       | then-are_whole w ↦
           let whole = c.are_whole.ensures.0 w.if-are_whole.true in

@@ -1,5 +1,5 @@
 use Rattle.fade_core.proofs.Standing.{stands_full}
-use Rattle.fade_core.proofs.course.Course.levels.Goals as goal
+use Rattle.fade_core.proofs.step.StepFaderFader.levels.Goals as goal
 
 pub returns-clause-full : goal.returns-clause-full
 returns-clause-full c =

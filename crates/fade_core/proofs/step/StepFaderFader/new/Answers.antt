@@ -1,7 +1,7 @@
 use Rattle.std.proofs.Common.{rules, ◌≡◌, ℕ, ◌-◌, ◌<◌, replicate, arith}
 use Rattle.fade_core.proofs.Fade.{split_fade_zeros}
 use Rattle.fade_core.proofs.Standing.{fading_new, stands_new}
-use Rattle.fade_core.proofs.course.Course.new.Goals as goal
+use Rattle.fade_core.proofs.step.StepFaderFader.new.Goals as goal
 
 pub invariant_of-result : goal.invariant_of-result
 invariant_of-result c =

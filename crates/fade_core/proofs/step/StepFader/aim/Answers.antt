@@ -3,7 +3,7 @@ use Rattle.std.specs.Vec.{with_items}
 use Rattle.std.proofs.lemmas.List.{with_items_is}
 use Rattle.show_core.specs.Numbers.{AreLevels}
 use Rattle.fade_core.proofs.Standing.{stands_full, stands_started}
-use Rattle.fade_core.proofs.course.Course.aim.Goals as goal
+use Rattle.fade_core.proofs.step.StepFader.aim.Goals as goal
 
 -- a vector that was lent as a slice has what was written there
 written : (v : Vec ℕ Global) (given new : List ℕ) → given ≡ v.items → length new ≡ length given

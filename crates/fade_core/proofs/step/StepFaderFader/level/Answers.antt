@@ -1,6 +1,6 @@
 use Rattle.std.proofs.Common.{◌<◌, ◌-◌, length, ap, arith}
 use Rattle.fade_core.proofs.Standing.{stands_full}
-use Rattle.fade_core.proofs.course.Course.level.Goals as goal
+use Rattle.fade_core.proofs.step.StepFaderFader.level.Goals as goal
 
 pub returns-clause-full : goal.returns-clause-full
 returns-clause-full c =
