@@ -2,7 +2,7 @@ ghost use Rattle.std.specs.Prelude.{◌≡◌, ℕ, ◌+◌, ◌-◌, ◌*◌, �
 ghost use Rattle.std.specs.Prelude.{slice_index_or};
 ghost use Rattle.std.specs.Ordering.{nat_cmp};
 ghost use Rattle.std.specs.FinMap.{is_sorted};
-ghost use Rattle.fade_core.specs.declared.channel_fade.ChannelFade.{ChannelFade as Underway};
+ghost use Rattle.fade_core.specs.declared.channel_fade.ChannelFade.{ChannelFade};
 ghost use Rattle.fade_core.specs.Level.{byte_of, split_fade};
 ghost use Rattle.fade_core.specs.Plain.{IsUnderway, level_in};
 
@@ -70,7 +70,7 @@ fn aim(fades: &mut [ChannelFade], look: &[(u16, u8)], up: Rate, down: Rate, mome
     requires ascending { IsTrue (is_sorted nat_cmp look.now) }
     requires few { length fades.old < 2 ^ 16 }
     requires underway { All (IsUnderway moment) fades.old }
-    ensures levels { (place later : ℕ) (none : Underway) → place < length fades.old
+    ensures levels { (place later : ℕ) (none : ChannelFade) → place < length fades.old
         → level_in (slice_index_or fades.new place none) later
         ≡ split_fade (level_in (slice_index_or fades.old place none) moment)
         (255 * byte_of look.now (place + 1)) up down (later - moment) }
