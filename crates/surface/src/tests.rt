@@ -1,4 +1,6 @@
 mod allowed;
+mod allowed_job;
+mod command_line;
 mod desks;
 mod devices;
 mod every_moment;
