@@ -23,3 +23,5 @@ mod streams;
 mod tables;
 mod variants;
 mod words_and_lines;
+mod world_variants;
+mod worlds;
