@@ -3,7 +3,7 @@
 //! compile:
 //!
 //! ```text
-//! sed -i '/ALLOWED$/d' allowed.rt
+//! sed -i '/ALLOWED$/d' allowed.rt allowed_job.rt
 //! ```
 
 use desk_core::Command;
