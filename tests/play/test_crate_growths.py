@@ -71,7 +71,8 @@ TESTED = {
     "test_program::play": Tested(("play", "Console::open"), ("rows::each_growth_refused",)),
     "test_program::live": Tested(("Night::open",), ("rows::each_growth_refused",)),
     "test_program::rehearsing": Tested(
-        ("rehearse_text",), ("devices_fail::each_device_fails", "rows::rehearse_basic")
+        ("rehearse_text", "rehearse_compactly"),
+        ("devices_fail::each_device_fails", "rows::rehearse_basic"),
     ),
 }
 # Public calls whose growths are refused in the program alone, and the test of RefusedGrowths that
