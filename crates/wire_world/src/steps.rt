@@ -148,8 +148,8 @@ pub(crate) fn deliver_at<F: Fader>(
     if usize::from(handover.receiver) >= receivers.len() {
         return CompactReply(Kept::Skipped(Skip::NoReceiver));
     }
-    match stages[i].datagram(handover.universe, handover.k) {
-        None => CompactReply(Kept::Skipped(Skip::NotSent)),
-        Some(bytes) => hear_at(receivers, handover.receiver, moment, bytes),
-    }
+    let Some(bytes) = stages[i].datagram(handover.universe, handover.k) else {
+        return CompactReply(Kept::Skipped(Skip::NotSent));
+    };
+    hear_at(receivers, handover.receiver, moment, bytes)
 }

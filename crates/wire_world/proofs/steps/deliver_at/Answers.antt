@@ -11,20 +11,20 @@ datagram-requires g c = let kept = c.requires _ _ _ _ _ refl
     (at_number c.args.stages.now _ _ _ c.from-i.ensures c.if-i-stages.false c.index-stages-i.is) in
     record { here = kept.0; wanted = kept.1 }
 
-pub returns-in-None : goal.returns-in-None
-returns-in-None g c =
+pub returns-in_default : goal.returns-in_default
+returns-in_default g c =
     let is = looked_up (StageStands g.F.Fader.stands_for) LinkTells _ c.args.receivers.now _
     c.args.handover.receiver _ _ _ (at_number c.args.stages.now _ _ _ c.from-i.ensures
     c.if-i-stages.false c.index-stages-i.is)
     (omega (arith, c.from.ensures, c.if-from-receivers.false)) None
-    (λ p h s t. ap (option_map (λ b. b.now)) (sym c.in-None.is) ∙ c.datagram.ensures p h s t) in
+    (λ p h s t. ap (option_map (λ b. b.now)) (sym c.in_default.is) ∙ c.datagram.ensures p h s t) in
     record {
       reply = λ w past all tell hear. rw (is w past all tell hear).2 refl;
       hear = λ w past all tell hear. rw (is w past all tell hear).2 hear;
     }
 
-pub returns-in-Some : goal.returns-in-Some
-returns-in-Some g c =
+pub returns : goal.returns
+returns g c =
     let is = looked_up (StageStands g.F.Fader.stands_for) LinkTells _ c.args.receivers.now _
     c.args.handover.receiver _ _ _ (at_number c.args.stages.now _ _ _ c.from-i.ensures
     c.if-i-stages.false c.index-stages-i.is)
