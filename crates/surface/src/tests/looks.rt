@@ -18,6 +18,7 @@ fn look_of_one_lamp(rt: HostRuntime) -> Result<(), Fail> {
 
 // Straight on, without a look at whether the cue is there.
 #[test]
+#[tactic(auto, using(crate::proofs::There::there))]
 fn look_of_a_built_cue(rt: HostRuntime) -> Result<(), Fail> {
     let mut show = Show::new(rt.alloc());
     show.set_patch(514, 4096, 255)?;

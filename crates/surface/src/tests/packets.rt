@@ -1,6 +1,8 @@
 //! sacn_packet: look_one's bytes, parse_lengths, ignored_kinds's priority, renumber, cut_packet
 //! and turned_bytes.
 
+ghost use Rattle.std.specs.Prelude.{◌≡◌, length};
+
 use super::rows::CID;
 use sacn_packet::{DataPacket, Header, SourceName, Unreadable, encode, parse, refill, renumber};
 use std::process::Abort;
@@ -10,7 +12,9 @@ fn name(rt: &impl Abort) -> SourceName {
 }
 
 // look_one's packet.
-fn one_lamp(rt: &impl Abort) -> [u8; 638] {
+fn one_lamp(rt: &impl Abort) -> [u8; 638]
+    ensures { length result ≡ 638 }
+{
     let header = Header {
         cid: CID,
         name: name(rt),

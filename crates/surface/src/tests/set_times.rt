@@ -26,6 +26,7 @@ fn cue_1(show: &mut Show) -> Result<(), BuildFault> {
 
 // Each is the one set last, else the other, else zeros.
 #[test]
+#[tactic(auto, using(crate::proofs::There::there))]
 fn times(rt: HostRuntime) -> Result<(), Fail> {
     let zeros = Rate { time: 0, delay: 0 };
     let mut show = Show::new(rt.alloc());
