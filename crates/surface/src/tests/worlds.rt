@@ -3,6 +3,9 @@
 //!
 //! Each list of events is written out, so the condition on strays is seen.
 
+ghost use Rattle.std.specs.Prelude.{◌≡◌};
+ghost use Rattle.wire_world.specs.declared.event.What.TheVariants.{Deliver as delivery};
+
 use super::rows::{CID, S1, player, show_of};
 use desk_core::{Command, Refused, Ticked};
 use fade_core::{PlainFader, StepFader};
@@ -21,11 +24,15 @@ fn console(rt: &impl Abort, show: usize) -> Setup {
     }
 }
 
-const fn at(moment: u64, what: What) -> Event {
+const fn at(moment: u64, what: What) -> Event
+    ensures { result ≡ record { moment = moment; what = what } }
+{
     Event { moment, what }
 }
 
-const fn deliver(console: u16, k: u64) -> What {
+const fn deliver(console: u16, k: u64) -> What
+    ensures { result ≡ delivery 0 console 1 k }
+{
     What::Deliver {
         receiver: 0,
         console,
