@@ -102,14 +102,17 @@ impl Feed for Endless {
 /// Datagrams over memory. Behind the last one each call fails.
 #[derive(Drop)]
 pub struct TestSource<'a> {
-    rest: &'a [&'a [u8]],
+    datagrams: &'a [&'a [u8]],
+    // How many of them were received.
+    received: usize,
     failing: Failing,
 }
 
 impl<'a> TestSource<'a> {
     pub fn new(datagrams: &'a [&'a [u8]], failing: Failing) -> TestSource<'a> {
         TestSource {
-            rest: datagrams,
+            datagrams,
+            received: 0,
             failing,
         }
     }
@@ -118,12 +121,12 @@ impl<'a> TestSource<'a> {
 impl Datagrams for TestSource<'_> {
     fn receive(&mut self, buf: &mut [u8; 1500]) -> Result<usize, LinkFault> {
         self.failing.count()?;
-        let Some((datagram, rest)) = self.rest.split_first() else {
+        let Some(datagram) = self.datagrams.get(self.received) else {
             return Err(LinkFault);
         };
         let count = datagram.len().min(1500);
         buf[..count].copy_from_slice(&datagram[..count]);
-        self.rest = rest;
+        self.received = self.received.saturating_add(1);
         Ok(count)
     }
 }
