@@ -12,7 +12,7 @@ use booth::{BoothFaults, Coming, MemoryBooth};
 use cmd_faults::RunFault;
 use cmd_live::Night;
 use devices::memory::{Faults, MemoryLink};
-use fade_core::{Fader, PlainFader};
+use fade_core::{Fader, StepFader};
 use sacn_packet::SourceName;
 use sacn_source::Identity;
 use std::alloc::Global;
@@ -70,7 +70,7 @@ impl<'a> Run<'a> {
         mut booth: MemoryBooth<'a>,
     ) -> Self {
         let mut link = MemoryLink::new(alloc, setting.link.passing, setting.link.failing);
-        let answer = match new_night::<PlainFader>(alloc, setting, identity(rt)) {
+        let answer = match new_night::<StepFader>(alloc, setting, identity(rt)) {
             Ok(mut night) => night.live(0, &mut booth, &mut link),
             Err(fault) => Err(fault),
         };
