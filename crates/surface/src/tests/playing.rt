@@ -2,8 +2,8 @@
 //! play_refusals, play_lost, long_line, base_universe, each_send_fails, each_device_fails,
 //! endless_lines and sixteen_universes.
 
-use super::devices::{Endless, Failing, TestFeed, TestOutput};
 use super::links::TestLink;
+use super::own_devices::{Endless, Failing, TestFeed, TestOutput};
 use super::rows::{S1, player};
 use cmd_faults::RunFault;
 use cmd_play::play;

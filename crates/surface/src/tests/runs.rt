@@ -2,7 +2,7 @@
 //! look_one, empty_show, show_faults, skipped_lines, listen_three, look_two_universes,
 //! look_missing_cue, look_no_patch, largest_show, each_device_fails and top_channel.
 
-use super::devices::{Failing, TestOutput, TestSource};
+use super::own_devices::{Failing, TestOutput, TestSource};
 use super::rows::{CID, ONE_LAMP, S1};
 use cmd_faults::{RunFault, exit_status};
 use cmd_listen::listen;

@@ -2,7 +2,7 @@
 //! setup_faults, skips, window_edge, two_consoles_highest, two_consoles_priority, five_consoles and
 //! silent_console.
 
-use super::devices::{Failing, TestOutput};
+use super::own_devices::{Failing, TestOutput};
 use super::rows::S1;
 use cmd_faults::RunFault;
 use cmd_rehearse::rehearse_text;
