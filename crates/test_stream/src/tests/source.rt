@@ -149,7 +149,7 @@ fn each_growth_refused(rt: HostRuntime) {
         Ok(sender) => sender,
         Err(_) => Sender::open(rt.alloc(), player(), &[1, 2]).expect(&rt, "memory"),
     };
-    assert!(rt; sender.sent(1) == 0 && sender.packets_sent(2) == 0);
+    assert!(rt; sender.sent(1) == 0 && sender.sent(2) == 0);
 }
 
 #[test]
