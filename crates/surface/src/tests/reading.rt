@@ -4,7 +4,7 @@
 use super::rows::S1;
 use show_core::{Counts, Rate, Show};
 use show_reader::{Loaded, ShowFault, read_show};
-use std::alloc::Global;
+use std::alloc::{AllocError, Global};
 use std::test::Fail;
 
 fn refuses(alloc: Global, text: &[u8], fault: ShowFault) -> bool {
@@ -109,11 +109,17 @@ fn console_file(rt: HostRuntime) -> Result<(), Fail> {
 }
 
 // A file of 1,048,576 bytes is read, one of 1,048,577 is not.
+// A comment of so many bytes.
+fn comment(alloc: Global, size: usize) -> Result<Vec<u8>, AllocError> {
+    vec![in alloc; b'!'; size]
+}
+
 #[test]
 fn too_long(rt: HostRuntime) -> Result<(), Fail> {
-    let text = vec![in rt.alloc(); b'!'; 1_048_577]?;
+    let text = comment(rt.alloc(), 1_048_577)?;
     assert!(rt; refuses(rt.alloc(), text.as_slice(), ShowFault::TooLong));
-    assert!(rt; reads(rt.alloc(), &text[..1_048_576], [1, 0, 0, 0, 0, 0]));
+    let text = comment(rt.alloc(), 1_048_576)?;
+    assert!(rt; reads(rt.alloc(), text.as_slice(), [1, 0, 0, 0, 0, 0]));
     Ok(())
 }
 
