@@ -58,6 +58,9 @@ fn each_job(rt: HostRuntime) {
     for (place, words) in rows.iter().enumerate() {
         assert!(rt; number_of(rt.alloc(), words) == Some(place as u8 + 1));
     }
-    let job = read_words(rt.alloc(), rows[0]);
-    assert!(rt; matches!(job, Ok(Job::Check { show }) if is_name(&show, "x")));
+    let is_named = match read_words(rt.alloc(), rows[0]) {
+        Ok(Job::Check { show }) => is_name(&show, "x"),
+        _other => false,
+    };
+    assert!(rt; is_named);
 }
