@@ -111,7 +111,7 @@ class Made(Package):
     def test_other_sources(self):
         """Nothing is packed of a tree whose dist/ is not what its sources make."""
         top = self.copy("one")
-        (top / "crates/show/src/lib.rt").write_text("other")
+        (top / "crates/show_core/src/lib.rt").write_text("other")
         status, out, err = run(top / "dev/package", self.folder / "made", env=self.environment)
         told = "package: dist/ is not what these sources make: ./build first\n"
         self.assertEqual((1, "", told), (status, out, err))
