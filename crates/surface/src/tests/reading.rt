@@ -1,10 +1,10 @@
 //! show_reader: show_faults, skipped_lines, console_style_file, clear_cues, too_many_cues,
 //! foreign_page_order, follow_faults and limits_refused.
 
-use super::rows::S1;
+use super::rows::{S1, comment};
 use show_core::{Counts, Rate, Show};
 use show_reader::{Loaded, ShowFault, read_show};
-use std::alloc::{AllocError, Global};
+use std::alloc::Global;
 use std::test::Fail;
 
 fn refuses(alloc: Global, text: &[u8], fault: ShowFault) -> bool {
@@ -109,11 +109,6 @@ fn console_file(rt: HostRuntime) -> Result<(), Fail> {
 }
 
 // A file of 1,048,576 bytes is read, one of 1,048,577 is not.
-// A comment of so many bytes.
-fn comment(alloc: Global, size: usize) -> Result<Vec<u8>, AllocError> {
-    vec![in alloc; b'!'; size]
-}
-
 #[test]
 fn too_long(rt: HostRuntime) -> Result<(), Fail> {
     let text = comment(rt.alloc(), 1_048_577)?;

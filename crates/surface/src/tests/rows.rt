@@ -4,7 +4,7 @@ use sacn_packet::SourceName;
 use sacn_source::Identity;
 use show_core::Show;
 use show_reader::{ShowFault, read_show};
-use std::alloc::Global;
+use std::alloc::{AllocError, Global};
 use std::process::Abort;
 
 /// c0ffee00-0000-4000-8000-00000000e131
@@ -26,6 +26,11 @@ DOWN 4\nCHAN 2@FL\nSUB 1\nCHAN 1@50\nPATCH 1 1<1@FL 2<2@FL\nENDDATA\n";
 
 /// The show of look_one.
 pub const ONE_LAMP: &[u8] = b"IDENT 3:0\nCUE 1\nCHAN 1@H80\nPATCH 1 1<1@H80\nENDDATA\n";
+
+/// A comment of so many bytes.
+pub fn comment(alloc: Global, size: usize) -> Result<Vec<u8>, AllocError> {
+    vec![in alloc; b'!'; size]
+}
 
 /// The show that a text means.
 pub fn show_of(alloc: Global, text: &[u8]) -> Result<Show, ShowFault> {

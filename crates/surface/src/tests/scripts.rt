@@ -3,7 +3,7 @@
 //! silent_console.
 
 use super::own_devices::{Failing, TestOutput};
-use super::rows::S1;
+use super::rows::{S1, comment};
 use cmd_faults::RunFault;
 use cmd_rehearse::rehearse_text;
 use fade_core::{PlainFader, StepFader};
@@ -78,10 +78,11 @@ fn setup_faults(rt: HostRuntime) {
 
 #[test]
 fn script_too_long(rt: HostRuntime) -> Result<(), Fail> {
-    let long = vec![in rt.alloc(); b'!'; 16_777_217]?;
+    let long = comment(rt.alloc(), 16_777_217)?;
     assert!(rt; refuses(rt.alloc(), S1, long.as_slice(), RunFault::Script));
+    let long = comment(rt.alloc(), 16_777_216)?;
     let fault = RunFault::Setup(Fault::Consoles);
-    assert!(rt; refuses(rt.alloc(), S1, &long[..16_777_216], fault));
+    assert!(rt; refuses(rt.alloc(), S1, long.as_slice(), fault));
     Ok(())
 }
 
