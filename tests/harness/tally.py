@@ -1,136 +1,81 @@
-"""What came of tests: one line a test, and the counts. A test with several faulty rows failed
-once."""
+"""What came of tests as pytest ran them: a line each, and the counts at the end."""
 
-import time
-import traceback
-import unittest
 from collections.abc import Callable
-from types import TracebackType
+from pathlib import Path
 
-from machine import Late, Patience, stands_still
+import pytest
 
 # How many of the longest tests are told, and how much of a reason at the end.
 LONGEST, MOST_OF_A_REASON = 10, 300
-# How often a test runs again, and for how many seconds in all tests wait for the machine.
-MOST_AGAIN, MOST_WAIT = 3, 1800.0
 
-ErrInfo = tuple[type[BaseException], BaseException, TracebackType]
+
+def name_of(nodeid: str) -> str:
+    """The name of a test, as unittest gives it: `test_play.Rows.test_empty_show`."""
+    file, *inner = nodeid.partition("@")[0].split("::")
+    return ".".join([Path(file).stem, *inner])
+
+
+def reason_of(report: pytest.CollectReport | pytest.TestReport) -> str:
+    """The first line of why a test failed, or was skipped."""
+    if isinstance(report.longrepr, tuple):
+        return str(report.longrepr[2]).removeprefix("Skipped: ")
+    crash = getattr(report.longrepr, "reprcrash", None)
+    text = crash.message if crash is not None else str(report.longrepr)
+    return text.strip().partition("\n")[0]
 
 
 def print_at_once(line: str) -> None:
     print(line, flush=True)
 
 
-class Sum:
-    """What came of the tests so far."""
+class Tally:
+    """A plugin of the process that hands out the tests. It sums up one round or more."""
 
-    def __init__(self) -> None:
-        self.passed = 0
-        # What failed, with the reasons; the tests that run again; how long each took.
-        self.failed: list[tuple[str, list[str]]] = []
-        self.again: list[str] = []
-        self.times: list[tuple[float, str]] = []
-
-    def add(self, other: "Sum") -> None:
-        self.passed += other.passed
-        self.failed += other.failed
-        self.again += other.again
-        self.times += other.times
-
-    def tell(self) -> None:
-        """What took longest, again what failed, and the counts."""
-        print("the longest tests:")
-        for seconds, name in sorted(self.times, reverse=True)[:LONGEST]:
-            print(f"    {seconds:.1f} s {name}")
-        if self.failed:
-            print("what failed:")
-        for name, reasons in self.failed:
-            print(f"    {name}")
-            for reason in reasons:
-                print(f"        {reason[:MOST_OF_A_REASON]}")
-        print(f"{self.passed} passed, {len(self.failed)} failed")
-
-
-class Tally(unittest.TestResult):
-    """Sums up tests as they run. They have run so many rounds before."""
-
-    patience = Patience(MOST_WAIT)
-
-    def __init__(
-        self, say: Callable[[str], None] = print_at_once, is_first: bool = False, rounds: int = 0
-    ) -> None:
-        super().__init__()
+    def __init__(self, say: Callable[[str], None] = print_at_once) -> None:
         self.say = say
-        self.is_first = is_first
-        self.rounds = rounds
-        self.sum = Sum()
-        # Of the test that runs: each fault's kind, reason and trace, and when it began.
-        self.faults: list[tuple[type[BaseException], str, str]] = []
-        self.skips_before = 0
-        self.began = 0.0
+        self.passed: set[str] = set()
+        # What failed, with the reason; the tests that run again; how long each took.
+        self.failed: dict[str, str] = {}
+        self.again: list[str] = []
+        self.times: dict[str, float] = {}
 
-    def startTest(self, test: unittest.TestCase) -> None:
-        self.patience.wait(self.say)
-        super().startTest(test)
-        self.faults = []
-        self.skips_before = len(self.skipped)
-        self.began = time.monotonic()
-
-    def addError(self, test: unittest.TestCase, err: ErrInfo) -> None:
-        super().addError(test, err)
-        self.note(err, self.errors[-1][1])
-        if not isinstance(test, unittest.TestCase):
-            # As the set-up of a class, which is no test.
-            self.fail(str(test))
-
-    def addFailure(self, test: unittest.TestCase, err: ErrInfo) -> None:
-        super().addFailure(test, err)
-        self.note(err, self.failures[-1][1])
-
-    def addSubTest(
-        self, test: unittest.TestCase, subtest: unittest.TestCase, err: ErrInfo | None
-    ) -> None:
-        super().addSubTest(test, subtest, err)
-        if err is not None:
-            kind = self.failures if issubclass(err[0], test.failureException) else self.errors
-            row = str(subtest).removeprefix(str(test)).strip()
-            self.note(err, f"{row}\n{kind[-1][1]}")
-
-    def note(self, err: ErrInfo, trace: str) -> None:
-        reason = "".join(traceback.format_exception_only(*err[:2])).splitlines()[0]
-        self.faults.append((err[0], reason, trace))
-
-    def excuse(self) -> str:
-        """Why what failed may be the machine's fault; empty where it is not."""
-        is_late = all(issubclass(kind, Late) for kind, *_ in self.faults)
-        if is_late and self.rounds == 0:
-            return "was late"
-        if self.rounds < MOST_AGAIN and stands_still(self.began):
-            return "failed while the machine stood still"
-        return ""
-
-    def fail(self, name: str) -> None:
-        """Counts and tells a failure by the faults that were noted."""
-        self.sum.failed.append((name, [reason for _, reason, _ in self.faults]))
-        traces = (trace.rstrip().replace("\n", "\n    ") for *_, trace in self.faults)
-        self.say("\n    ".join([f"FAILED {name}", *traces]))
-        self.faults = []
-        if self.is_first:
-            self.stop()
-
-    def stopTest(self, test: unittest.TestCase) -> None:
-        super().stopTest(test)
-        name = test.id()
-        self.sum.times.append((time.monotonic() - self.began, name))
-        if self.faults:
-            if excuse := self.excuse():
-                self.sum.again.append(name)
-                self.say(f"again: {name} {excuse}: {self.faults[0][1]}")
-            else:
-                self.fail(name)
-        elif len(self.skipped) > self.skips_before:
-            self.say(f"skipped {name}: {self.skipped[-1][1]}")
-        else:
-            self.sum.passed += 1
+    def pytest_runtest_logreport(self, report: pytest.TestReport) -> None:
+        name = name_of(report.nodeid)
+        self.times[name] = self.times.get(name, 0.0) + report.duration
+        if report.outcome == "again":
+            self.again.append(name)
+            self.say(f"again: {name} {report.excuse}: {reason_of(report)}")
+        elif report.failed:
+            self.fail(name, report)
+        elif report.skipped:
+            self.say(f"skipped {name}: {reason_of(report)}")
+        elif report.when == "call":
+            self.passed.add(name)
             self.say(f"ok {name}")
-        self.faults = []
+
+    def pytest_collectreport(self, report: pytest.CollectReport) -> None:
+        if report.failed:
+            self.fail(name_of(report.nodeid), report)
+
+    def fail(self, name: str, report: pytest.CollectReport | pytest.TestReport) -> None:
+        self.failed[name] = reason_of(report)
+        self.say(f"FAILED {name}: {report.longreprtext}".rstrip().replace("\n", "\n    "))
+
+    def next_round(self) -> list[str]:
+        """The tests that run again, which are not counted yet."""
+        names, self.again = [name for name in self.again if name not in self.failed], []
+        return names
+
+    def tell(self) -> int:
+        """What took longest, again what failed, and the counts; 1 where a test failed, or none
+        passed."""
+        self.say("the longest tests:")
+        for name, seconds in sorted(self.times.items(), key=lambda each: -each[1])[:LONGEST]:
+            self.say(f"    {seconds:.1f} s {name}")
+        if self.failed:
+            self.say("what failed:")
+        for name, reason in self.failed.items():
+            self.say(f"    {name}\n        {reason[:MOST_OF_A_REASON]}")
+        passed = self.passed - self.failed.keys()
+        self.say(f"{len(passed)} passed, {len(self.failed)} failed")
+        return 1 if self.failed or not passed else 0

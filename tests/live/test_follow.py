@@ -1,9 +1,13 @@
 """`live --follow`: a backup carries out the lines of a main's record as they come, under its own
 CID, and goes on by itself when the main is silent."""
 
+import fcntl
 import os
 import re
 import subprocess
+import sys
+import termios
+import threading
 import time
 from pathlib import Path
 
@@ -18,6 +22,8 @@ from wire import OPTIONS, SLOT_1, TERMINATED, address_of, receiver_socket
 # How long a main may be silent, in milliseconds, and how late the light may come behind that or the
 # main's.
 SILENCE, LATE = 300, 100
+# Bytes that a pipe holds.
+PIPE = 65_536
 ALONE = rb"\d:\d\d:\d\d the main is silent: goes on by itself"
 REFUSED = b": the main leads; take ends the following\n"
 
@@ -25,6 +31,11 @@ REFUSED = b": the main leads; take ends the following\n"
 def slots_by_place(sent):
     """The slots of packets, by their moment and universe."""
     return {(each.moment, universe_of(each.packet)): each.packet[SLOT_1:] for each in sent}
+
+
+def filled(reader):
+    """How many bytes a pipe holds."""
+    return int.from_bytes(fcntl.ioctl(reader, termios.FIONREAD, bytes(4)), sys.byteorder)
 
 
 def lines_of(record):
@@ -113,6 +124,32 @@ class Leads(FollowTest):
         self.write(record, "75 tick")
         backup.light(2)
         self.assertEqual({75}, {each.moment for each in self.assertStream(backup)})
+
+    def test_old_lines_into_a_record_that_is_late(self):
+        """All of what stood there is in the backup's own record, though nobody reads that yet."""
+        record, own, show = (self.folder / name for name in ("main.play", "own", "show.asc"))
+        line = b"0 master FL ! " + b"x" * 150 + b"\n"
+        record.write_bytes(head(SHOW) + b"0 tick\n" + line * 2_000)
+        show.write_bytes(SHOW)
+        os.mkfifo(own)
+        words = ["live", show, "--to", self.to, "--cid", BACKUP, "--record", own]
+        words += ["--follow", record, "--patience", LONG, "--priority", str(PRIORITY)]
+        reader = os.open(own, os.O_RDONLY | os.O_NONBLOCK)
+        pipes = dict.fromkeys(("stdin", "stderr"), subprocess.PIPE)
+        backup = subprocess.Popen([PROGRAM, *words], **pipes)
+        self.addCleanup(backup.communicate)
+        self.addCleanup(backup.kill)
+        wait_until(lambda: filled(reader) > PIPE // 2, "the own record is late")
+        time.sleep(1)
+        os.set_blocking(reader, True)
+        kept = []
+        reading = threading.Thread(target=lambda: kept.append(open(reader, "rb").read()))
+        reading.start()
+        told = iter(backup.stderr.readline, b"")
+        self.assertTrue(any(each.startswith(LEADS) for each in told))
+        backup.kill()
+        reading.join(timeout=30)
+        self.assertEqual(2_000, kept[0].count(line))
 
     def test_head_that_comes(self):
         """The head of its record may come while the backup begins."""
@@ -386,6 +423,23 @@ class Refused(FollowTest):
             waited = took(since)
             self.assertGreaterEqual(waited.ms, patience)
             in_time(waited, patience + 1000, "a refusal")
+
+    def test_main_that_is_over(self):
+        """A night that has ended is followed by none: nothing is sent."""
+        lines = b"0 tick\n3 end\n25 tick\n50 tick\n75 tick\n"
+        self.record.write_bytes(head(SHOW) + lines)
+        with receiver_socket() as receiver:
+            words = ["live", self.show, "--to", address_of(receiver), "--cid", BACKUP]
+            done = subprocess.run(
+                [PROGRAM, *words, "--follow", self.record],
+                input=b"take\n",
+                capture_output=True,
+                timeout=PATIENCE,
+            )
+            self.assertEqual((4, b""), (done.returncode, done.stdout), done.stderr)
+            self.assertRegex(done.stderr, rb"(?m)^record: the night has ended$")
+            receiver.setblocking(False)
+            self.assertRaises(BlockingIOError, receiver.recv, 1500)
 
     def test_same_cid_of_a_main_that_is_on(self):
         main = self.night()

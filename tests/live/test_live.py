@@ -7,6 +7,7 @@ import re
 import signal
 import subprocess
 import time
+import unittest
 from pathlib import Path
 
 from live_nights import HELD, MISSED, NEVER, TURN, LiveTest, without_moments
@@ -489,12 +490,21 @@ class Lock(LiveTest):
         self.assertNoLock(runtime)
         self.assertEqual([], list(elsewhere.iterdir()))
 
+    @unittest.skipUnless(os.geteuid() == 0, "only root can make a folder of another user")
+    def test_folder_of_another(self):
+        """No lock is made in a folder of another user, who could take it away."""
+        folder = self.folder / "runtime" / "cueplayer"
+        folder.mkdir(parents=True)
+        os.chown(folder, 65534, -1)
+        self.assertNoLock(folder.parent)
+        self.assertEqual([], list(folder.iterdir()))
+
     def test_no_folder(self):
         """Where no lock can be made that is told, and the night begins."""
         self.assertNoLock(self.file("no folder", b""))
 
     def assertNoLock(self, runtime):
-        """In this folder of the user's runtime no lock is made."""
+        """In this folder of the user's runtime no lock is made. That is told before all else."""
         done = subprocess.run(
             [PROGRAM, *self.words()],
             input=b"",
@@ -504,3 +514,4 @@ class Lock(LiveTest):
         )
         without_lock = b"cid: no lock can be made, so a second console of this CID would begin\n"
         self.assertEqual((0, without_lock), (done.returncode, messages_in(done.stderr)))
+        self.assertTrue(done.stderr.startswith(without_lock), done.stderr)

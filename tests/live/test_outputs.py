@@ -243,3 +243,13 @@ class Outputs(OutputsTest):
                 self.assertEqual(7 if status == 0 else 0, len(self.came()[-7:]))
                 if closed == (1,):
                     self.assertTrue(done.stderr.startswith(b"device fault\nstandard output: "))
+
+    def test_closed_output_beside_a_missing_show(self):
+        """Standard output is asked for before the show is read."""
+        words = [PROGRAM, *self.words()]
+        words[2] = self.folder / "none.asc"
+        done = subprocess.run(
+            words, capture_output=True, timeout=30, preexec_fn=lambda: os.close(1)
+        )
+        self.assertEqual(5, done.returncode)
+        self.assertTrue(done.stderr.startswith(b"device fault\nstandard output: "), done.stderr)

@@ -152,6 +152,14 @@ class Spare(RestartTest):
         self.assertGoesOn(night)
         self.assertOne(night)
 
+    def test_stands_by_for_long(self):
+        """It asks for no lock of its CID meanwhile: a lock is asked for within a second."""
+        night = self.begin_with_spare(b"go\n")
+        time.sleep(2)
+        self.assertIsNone(night.spare.poll())
+        self.assertGoesOn(night)
+        self.assertOne(night)
+
     def test_head_that_comes(self):
         """The head of the record may take a second to come."""
         night = self.night()
@@ -159,6 +167,17 @@ class Spare(RestartTest):
         night.stands_by()
         time.sleep(0.3)
         night.record.write_bytes(head(self.SHOW) + b"0 tick\n")
+        night.promote()
+        night.light()
+        self.assertEnds(night)
+
+    def test_name_that_comes(self):
+        """It sends by the name of the night that it takes up, though the head comes late."""
+        night = self.night()
+        night.record.touch()
+        night.stands_by()
+        time.sleep(0.3)
+        night.record.write_bytes(head(self.SHOW, name="stage left") + b"0 tick\n")
         night.promote()
         night.light()
         self.assertEnds(night)

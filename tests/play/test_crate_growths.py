@@ -99,7 +99,8 @@ IN_THE_PROGRAM = {
     "live_name": "test_live",
     "new_night": "test_live",
     "open_night": "test_live",
-    "tell_night_start": "test_live",
+    "start_lines": "test_live",
+    "night_start_lines": "test_live",
     "suitable_show": "test_targets",
 }
 # Calls that take no memory once something is open: tests of them that ask for as much as one that

@@ -15,7 +15,7 @@ from generators.calls import ERRORS, Call, all_calls, crates  # noqa: E402  (dev
 # A fault that says no more than that the call failed.
 FAILED = re.compile(r"-> Result<[^>]*, LinkFault>")
 # Whose documentation says it without a chapter on errors.
-SAID_OTHERWISE = ("parse", "read_words", "SocketCall::call")
+SAID_OTHERWISE = ("parse", "read_words")
 
 
 def says_when_it_refuses(call: Call) -> bool:

@@ -11,7 +11,7 @@ from pathlib import Path
 from rooms import ROOMS
 
 TESTS = Path(__file__).resolve().parents[1]
-PARTS = ("lanes", "listing", "machine", "program", "rooms", "tally")
+PARTS = ("listing", "machine", "program", "rooms", "tally")
 SAMPLES = """
 '''Samples of tests. They are few.'''
 import os, unittest
@@ -59,7 +59,8 @@ class Runner(unittest.TestCase):
         self.tests = Path(folder.name, "tests")
         for room in ("harness", *ROOMS):
             (self.tests / room).mkdir(parents=True)
-        shutil.copy(TESTS / "run", self.tests)
+        for name in ("run", "conftest.py"):
+            shutil.copy(TESTS / name, self.tests)
         for part in PARTS:
             shutil.copy(TESTS / f"harness/{part}.py", self.tests / "harness")
         (self.tests / "tree/test_samples.py").write_text(SAMPLES)
@@ -72,14 +73,14 @@ class Runner(unittest.TestCase):
             env={**os.environ, "CUEPLAYER": sys.executable},
             capture_output=True,
             text=True,
-            timeout=120,
+            timeout=600,
         )
         self.assertEqual("", done.stderr)
         return done.returncode, done.stdout.splitlines()
 
     def test_counts(self) -> None:
         """In one lane as in more: a class that is not set up and a lane that dies are failures."""
-        for lanes in ("1", "3"):
+        for lanes in ("2", "3"):
             with self.subTest(lanes):
                 (self.tests / "late").unlink(missing_ok=True)
                 status, lines = self.run_tests("--lanes", lanes)
@@ -90,9 +91,10 @@ class Runner(unittest.TestCase):
                 self.assertEqual(1, lines.count("ok test_samples.Slow.test_late_once"))
                 told = lines[lines.index("what failed:") :]
                 self.assertIn("    test_samples.Bad.test_rows", told)
-                self.assertIn("    setUpClass (test_samples.Unmade)", told)
-                self.assertIn("    test_samples.Dies", told)
-                self.assertIn("        its lane ended by itself, with 3", told)
+                self.assertIn("        AssertionError: 2 != 0", told)
+                self.assertIn("    test_samples.Unmade.test_never", told)
+                self.assertIn("        OSError: no folder", told)
+                self.assertIn("    test_samples.Dies.test_end", told)
 
     def test_words(self) -> None:
         self.assertEqual((0, "2 passed, 0 failed"), self.last("Good"))
@@ -112,7 +114,7 @@ class Runner(unittest.TestCase):
 
     def test_first(self) -> None:
         """It ends at the first failure, and tells what was well until then."""
-        status, lines = self.run_tests("--first", "Bad", "Good")
+        status, lines = self.run_tests("--first", "Bad", "Slow")
         self.assertEqual((1, "0 passed, 1 failed"), (status, lines[-1]))
 
     def last(self, *words: str) -> tuple[int, str]:

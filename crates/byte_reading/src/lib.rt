@@ -13,7 +13,6 @@
 mod ahead;
 mod block_source;
 mod laws;
-pub mod memory;
 mod reading;
 mod short_lines;
 

@@ -39,7 +39,7 @@ is_refused : (r : Option Refused) (call : Call) (ticks : Option ℕ) (offers : L
     (answer : Answer) → answer ≡ call_answer r call ticks offers → accepts_call answer ≡ false
     → is_some r ≡ true
 is_refused (Some why) call ticks offers answer is done = refl
-is_refused None (Order command) ticks offers answer is done = cc
+is_refused None (Order instruction) ticks offers answer is done = cc
 is_refused None Tick ticks offers answer is done = cc
 
 none_taken : (r : Option Refused) (act : Act) (history : List Act) → is_some r ≡ true

@@ -3,7 +3,7 @@ use Rattle.std.proofs.Common.{◌≡◌, ◌++◌, Bool, List, Option, None, Som
 use Rattle.std.specs.Prelude.{OnSome}
 use Rattle.devices.specs.Send.{Send}
 use Rattle.fade_core.specs.Level.{Start}
-use Rattle.live_machine.specs.declared.night_system.FollowEnd.{FollowEnd}
+use Rattle.live_machine.specs.declared.follow_end.FollowEnd.{FollowEnd}
 use Rattle.cmd_live.specs.Beginning.{CanFollow, HasTakenUp}
 use Rattle.cmd_live.specs.Following.{Follows, HasFollowed, end_of_pause}
 use Rattle.cmd_live.specs.declared.follow.Pause.{Pause}

@@ -6,8 +6,8 @@ use Rattle.fade_core.specs.Level.{Start}
 use Rattle.console.specs.Streams.{Production}
 use Rattle.live_input.specs.Night.{answers, is_over}
 use Rattle.live_input.specs.Recall.{AreRecalled, IsRecalled, recall_of}
-use Rattle.live_machine.specs.declared.night_system.FollowEnd.{FollowEnd}
-use Rattle.live_machine.specs.declared.night_system.FollowEnd.TheVariants as follow
+use Rattle.live_machine.specs.declared.follow_end.FollowEnd.{FollowEnd}
+use Rattle.live_machine.specs.declared.follow_end.FollowEnd.TheVariants as follow
 use Rattle.cmd_live.specs.declared.follow.Pause.{Pause}
 use Rattle.cmd_live.specs.declared.follow.Pause.TheVariants.{Asked, Ended, Other}
 use Rattle.cmd_live.specs.declared.main_console.Led.{Led}

@@ -15,7 +15,7 @@ ghost use Rattle.cmd_live.specs.Stands.{BoothCarriesOut, ShowsText, accepts_call
 use crate::booth::Booth;
 use cmd_play::{Answer, perform};
 use console::{Call, Console, cue_line};
-use desk_core::Command;
+use desk_core::{Command, Instruction};
 use devices::Link;
 use fade_core::Fader;
 use live_input::GivenLine;
@@ -94,8 +94,10 @@ fn own_move(call: Call, current: Option<u32>) -> Option<u32>
     ensures { result ≡ own_move call current }
 {
     match call {
-        Call::Order(Command::Go | Command::Back | Command::Goto(_) | Command::GotoIn { .. }) =>
-            current,
+        Call::Order(
+            Instruction::Plain(Command::Go | Command::Back | Command::Goto(_))
+            | Instruction::GotoIn { .. },
+        ) => current,
         _ => None,
     }
 }

@@ -98,14 +98,14 @@ performed_tick p history moment before after t pairs e is offers = record {
 text_same : (m : ℕ) (r : Option Refused) (c : Call) (ticks : Option ℕ) (offers : List (ℕ × Offered))
     → text_of_answer m (call_answer r c ticks offers) ≡ moment_line m (answer_text r c ticks offers)
 text_same m (Some refused) c ticks offers = refl
-text_same m None (Order command) ticks offers = refl
+text_same m None (Order instruction) ticks offers = refl
 text_same m None Tick ticks offers = refl
 
 lost_same : {source : Identity} (r : Option Refused) (c : Call) (ticks : Option ℕ) (ds : List Due)
     {ss : List Send} {ps : List (ℕ × Offered)} → AreOffered source (dues_by r c ds) ss ps
     → lost_of_answer (call_answer r c ticks ps) ≡ failures_of ss
 lost_same (Some refused) c ticks ds none = refl
-lost_same None (Order command) ticks ds none = refl
+lost_same None (Order instruction) ticks ds none = refl
 lost_same None Tick ticks ds offered = lost_offers offered
 
 -- a call that was performed is answered by its text

@@ -20,7 +20,7 @@ pub use Rattle.devices.specs.Send.{Send, failures_of}
 pub use Rattle.desk_core.specs.declared.answer.Refused.{Refused}
 pub use Rattle.desk_core.specs.declared.answer.Ticked.{Ticked}
 pub use Rattle.desk_core.specs.Played.{Act, ticks_since_end, outcome, refusal, tick_answer, is_after_end}
-pub use Rattle.desk_core.specs.Played.{is_soon, lack_refusal, command_lacks, last_act_moment, last_tick}
+pub use Rattle.desk_core.specs.Played.{is_soon, lack_refusal, call_lacks, last_act_moment, last_tick}
 pub use Rattle.desk_core.specs.Played.{moved_to, moves, order_at, own_time, target, tick_at}
 pub use Rattle.desk_core.specs.Played.{time_refusal}
 pub use Rattle.sacn_source.specs.Identity.{Identity}
@@ -46,9 +46,10 @@ pub use Rattle.std.proofs.lemmas.Result.{err_from_is_err_and}
 pub use Rattle.cmd_play.specs.declared.fault.PlayFault.{PlayFault}
 pub use Rattle.std.specs.Option.{option_or}
 pub use Rattle.playback_core.specs.Played.{Move, current_after, moves_by}
-pub use Rattle.desk_core.specs.declared.command.Command.{Command}
-pub use Rattle.desk_core.specs.declared.command.Command.TheVariants.{Go, Back, Goto, GotoIn, Sub, Group}
+pub use Rattle.desk_core.specs.declared.command.Command.TheVariants.{Go, Back, Goto, Sub, Group}
 pub use Rattle.desk_core.specs.declared.command.Command.TheVariants.{Master, End}
+pub use Rattle.desk_core.specs.declared.instruction.Instruction.{Instruction}
+pub use Rattle.desk_core.specs.declared.instruction.Instruction.TheVariants.{Plain, GotoIn}
 pub use Rattle.desk_core.specs.declared.answer.Refused.TheVariants.{AtEnd, AtStart, NoCue}
 pub use Rattle.fade_core.specs.declared.fader.Fader.{Ghosts}
 pub use Rattle.fade_core.specs.Level.{Start}

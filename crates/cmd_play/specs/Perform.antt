@@ -3,7 +3,8 @@ use Rattle.std.specs.Prelude.{◌≡◌, ℕ, List, ◌++◌, Option, Some, None
 use Rattle.devices.specs.Send.{Send}
 use Rattle.desk_core.specs.declared.answer.Refused.{Refused}
 use Rattle.desk_core.specs.Played.{Act, ticks_since_end, refusal, tick_answer}
-use Rattle.desk_core.specs.declared.command.Command.TheVariants.{Go, Back, Goto, GotoIn}
+use Rattle.desk_core.specs.declared.command.Command.TheVariants.{Go, Back, Goto}
+use Rattle.desk_core.specs.declared.instruction.Instruction.TheVariants.{Plain, GotoIn}
 use Rattle.sacn_source.specs.declared.offered.Offered.{Offered}
 use Rattle.console.specs.Offering.{AreOffered}
 use Rattle.console.specs.Streams.{Production}
@@ -21,7 +22,7 @@ use Rattle.cmd_play.specs.Run.{dues_after}
 -- the answer to a call, by its refusal, the ticks since End, and what became of its offers
 abbrev pub call_answer : Option Refused → Call → Option ℕ → List (ℕ × Offered) → Answer
 call_answer (Some refused) call ticks offers = Refuse refused
-call_answer None (call.Order command) ticks offers = Done
+call_answer None (call.Order instruction) ticks offers = Done
 call_answer None call.Tick ticks offers = Ticked (tick_answer ticks) offers
 
 -- the link is offered what is due after the history, and the console answers so
@@ -48,8 +49,8 @@ text_of_answer moment (Ticked ticked offers) = moment_line moment (ticked_text t
 
 -- the cue to which an accepted call moved, from the one that is current behind it
 abbrev pub own_move : Call → Option ℕ → Option ℕ
-own_move (call.Order Go) current = current
-own_move (call.Order Back) current = current
-own_move (call.Order (Goto n)) current = current
+own_move (call.Order (Plain Go)) current = current
+own_move (call.Order (Plain Back)) current = current
+own_move (call.Order (Plain (Goto n))) current = current
 own_move (call.Order (GotoIn n time)) current = current
 own_move _ current = None

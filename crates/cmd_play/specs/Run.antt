@@ -52,7 +52,7 @@ dues_after p history _ = []
 -- the answer to a call, by its refusal, the ticks since End, and what became of its offers
 abbrev pub answer_text : Option Refused → Call → Option ℕ → List (ℕ × Offered) → List ℕ
 answer_text (Some refused) call ticks offers = refused_text refused
-answer_text None (Order command) ticks offers = done_text
+answer_text None (Order instruction) ticks offers = done_text
 answer_text None Tick ticks offers = ticked_text (tick_answer ticks) offers
 
 -- what is printed of a line: its moment and the answer to its call, or nothing where it has no

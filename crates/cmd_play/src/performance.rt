@@ -16,7 +16,7 @@ use sacn_source::Offered;
 /// What a console answers to a call.
 #[derive(Debug, Drop)]
 pub enum Answer {
-    /// The command is carried out.
+    /// The order is carried out.
     Done,
     /// The call is refused, and changed nothing.
     Refused(Refused),
@@ -96,7 +96,7 @@ fn answer_call<F: Fader, L: Link>(
     ensures told { L.tells link.new → L.tells link.old }
 {
     match call {
-        Call::Order(command) => match console.command(moment, command) {
+        Call::Order(instruction) => match console.order(moment, instruction) {
             Ok(()) => Answer::Done,
             Err(refused) => Answer::Refused(refused),
         },

@@ -9,6 +9,7 @@ use Rattle.uuid.proofs.OnLiterals.{uuid_on_literals}
 use Rattle.desk_core.specs.declared.answer.Refused.TheVariants.{TooSoon, AtEnd}
 use Rattle.desk_core.specs.declared.answer.Ticked.TheVariants.{Live, Ending}
 use Rattle.desk_core.specs.declared.command.Command.TheVariants.{Go}
+use Rattle.desk_core.specs.declared.instruction.Instruction.TheVariants.{Plain}
 use Rattle.sacn_packet.specs.declared.unreadable.Unreadable.TheVariants.{Short}
 use Rattle.sacn_receiver.specs.declared.answer.Ignored.TheVariants.{OutOfSequence, Unreadable}
 use Rattle.sacn_receiver.specs.declared.answer.Taken.{Taken}
@@ -16,9 +17,9 @@ use Rattle.sacn_source.specs.declared.offered.Offered.TheVariants.{Sent}
 use Rattle.cmd_rehearse.specs.Forms.{setup}
 use Rattle.cmd_rehearse.specs.Script.{Parts, script_of}
 use Rattle.show_core.specs.Tables.{Tables}
-use Rattle.wire_world.specs.declared.event.Event.{Event}
-use Rattle.wire_world.specs.declared.event.What.{What}
-use Rattle.wire_world.specs.declared.event.What.TheVariants.{Order, Stray, Show}
+use Rattle.wire_world.specs.declared.happening.Happening.{Happening}
+use Rattle.wire_world.specs.declared.happening.Occurrence.{Occurrence}
+use Rattle.wire_world.specs.declared.happening.Occurrence.TheVariants.{Order, Stray, Show}
 use Rattle.wire_world.specs.declared.reply.Reply.{Reply}
 use Rattle.wire_world.specs.declared.reply.Reply.TheVariants as reply
 use Rattle.wire_world.specs.declared.reply.Skip.TheVariants.{Backwards, TooLarge, NoConsole}
@@ -67,7 +68,7 @@ script =
     codes "console 1 100 c0ffee00-0000-4000-8000-00000000e131\nreceiver 1\n0 do 1 go\n"
     ++ codes "0 slots 1\n\n5 slots 0\n4 slots 0 ! back\n281474976710656 slots 0\n5 stray 0 c0ff\n"
 
-abbrev at : ℕ → What → Event
+abbrev at : ℕ → Occurrence → Happening
 at t x = record { moment = t; what = x }
 
 abbrev parts : Parts
@@ -75,7 +76,7 @@ parts = record {
   consoles = setup 1 100
       (192 ∷ 255 ∷ 238 ∷ 0 ∷ 0 ∷ 0 ∷ 64 ∷ 0 ∷ 128 ∷ 0 ∷ 0 ∷ 0 ∷ 0 ∷ 0 ∷ 225 ∷ 49 ∷ []) ∷ [];
   receivers = 1 ∷ [];
-  events = at 0 (Order 1 Go) ∷ at 0 (Show 1) ∷ at 5 (Show 0) ∷ at 4 (Show 0)
+  events = at 0 (Order 1 (Plain Go)) ∷ at 0 (Show 1) ∷ at 5 (Show 0) ∷ at 4 (Show 0)
       ∷ at 281474976710656 (Show 0) ∷ at 5 (Stray 0 0 2) ∷ [];
   strays = 192 ∷ 255 ∷ [];
   lines = 3 ∷ 4 ∷ 6 ∷ 7 ∷ 8 ∷ 9 ∷ [];
@@ -90,7 +91,7 @@ replies = reply.Skipped NoConsole ∷ reply.Skipped NoReceiver ∷ reply.Shown (
     ∷ reply.Skipped Backwards ∷ reply.Skipped TooLarge ∷ reply.Ignored (Unreadable Short) ∷ []
 
 -- the reply to event j, where these events are the ones before it
-replied : (s : Tables) (j : ℕ) (said : Reply) (first e : Event)
+replied : (s : Tables) (j : ℕ) (said : Reply) (first e : Happening)
     → said ≡ reply_to (world s parts) (events_done (world s parts) (take j parts.events)) first
     → Some first ≡ Some e
     → Some said ≡ Some (reply_to (world s parts)
@@ -100,7 +101,7 @@ replied s j said first e is same =
     ap Some (is ∙ ap (reply_to (world s parts) (events_done (world s parts) (take j parts.events)))
     alike)
 
-each : (s : Tables) (j : ℕ) (e : Event) → slice_get parts.events j ≡ Some e
+each : (s : Tables) (j : ℕ) (e : Happening) → slice_get parts.events j ≡ Some e
     → slice_get replies j
     ≡ Some (reply_to (world s parts) (events_done (world s parts) (take j parts.events)) e)
 each s zero e is = replied s 0 _ _ e refl is

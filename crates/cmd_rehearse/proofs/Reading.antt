@@ -7,9 +7,9 @@ use Rattle.std.proofs.lemmas.Bool.{true≢false}
 use Rattle.std.proofs.lemmas.Grind.{common_steps}
 use Rattle.std.proofs.lemmas.List.Elements.{All-push}
 use Rattle.ascii_text.specs.Text.{words_of}
-use Rattle.wire_world.specs.declared.event.Event.{Event}
-use Rattle.wire_world.specs.declared.event.What.{What}
-use Rattle.wire_world.specs.declared.event.What.TheVariants as what
+use Rattle.wire_world.specs.declared.happening.Happening.{Happening}
+use Rattle.wire_world.specs.declared.happening.Occurrence.{Occurrence}
+use Rattle.wire_world.specs.declared.happening.Occurrence.TheVariants as what
 use Rattle.cmd_rehearse.specs.declared.said.Said.{Said}
 use Rattle.cmd_rehearse.specs.declared.said.Said.TheVariants.{Nothing, Console, Receiver, Happens}
 use Rattle.cmd_rehearse.specs.declared.said.Said.TheVariants.{Stray, Malformed}
@@ -54,7 +54,7 @@ strays_grow p n (Stray moment receiver bytes) = grind (arith, common_steps)
 strays_grow p n Nothing = omega arith
 strays_grow p n Malformed = omega arith
 
-wider : (what : What) (m n : ℕ) → m ≤ n → IsRange m what → IsRange n what
+wider : (what : Occurrence) (m n : ℕ) → m ≤ n → IsRange m what → IsRange n what
 wider (what.Order a b) m n h r = tt
 wider (what.Tick a) m n h r = tt
 wider (what.Deliver a b c d) m n h r = tt
@@ -66,7 +66,7 @@ pub record AreSound (p : Parts) : Type 0 where
   pub within : All (EventFits (length p.strays)) p.events
   pub counted : length p.lines ≡ length p.events
 
-sound_event : (p : Parts) (n : ℕ) (e : Event) → AreSound p → EventFits (length p.strays) e
+sound_event : (p : Parts) (n : ℕ) (e : Happening) → AreSound p → EventFits (length p.strays) e
     → AreSound (with_event p n e)
 sound_event p n e h is = record {
   within = All-push (EventFits (length p.strays)) p.events e h.within is;

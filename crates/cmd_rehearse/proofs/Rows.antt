@@ -5,8 +5,9 @@ use Rattle.hex.proofs.OnLiterals.{hex_on_literals}
 use Rattle.uuid.proofs.OnLiterals.{uuid_on_literals}
 use Rattle.ascii_text.specs.Text.{words_of}
 use Rattle.desk_core.specs.declared.command.Command.TheVariants.{Go, End}
-use Rattle.wire_world.specs.declared.event.What.TheVariants.{Order, Tick, Deliver, Show}
-use Rattle.wire_world.specs.declared.event.What.TheVariants as what
+use Rattle.desk_core.specs.declared.instruction.Instruction.TheVariants.{Plain}
+use Rattle.wire_world.specs.declared.happening.Occurrence.TheVariants.{Order, Tick, Deliver, Show}
+use Rattle.wire_world.specs.declared.happening.Occurrence.TheVariants as what
 use Rattle.cmd_rehearse.specs.declared.said.Said.{Said}
 use Rattle.cmd_rehearse.specs.declared.said.Said.TheVariants.{Nothing, Console, Receiver, Stray}
 use Rattle.cmd_rehearse.specs.declared.said.Said.TheVariants.{Malformed}
@@ -29,8 +30,8 @@ headers : (above (codes "console 1 100 c0ffee00-0000-4000-8000-00000000e131")
 unfolding uuid_on_literals
 headers = (refl, refl, refl)
 
-events : (above (codes "0 do 0 go") ≡ at 0 (Order 0 Go))
-    × (above (codes "5025 DO 0 end ! now") ≡ at 5025 (Order 0 End))
+events : (above (codes "0 do 0 go") ≡ at 0 (Order 0 (Plain Go)))
+    × (above (codes "5025 DO 0 end ! now") ≡ at 5025 (Order 0 (Plain End)))
     × (above (codes "1000 tick 0") ≡ at 1000 (Tick 0))
     × (above (codes "1000 deliver 0 0 1 0") ≡ at 1000 (Deliver 0 0 1 0))
     × (above (codes "2000 slots 0") ≡ at 2000 (Show 0))
@@ -58,7 +59,7 @@ basic = codes "receiver 1\n\n0 do 0 go\n0 stray 0 c0\n2000 slots 0\n"
 script : script_of basic ≡ Ok (record {
   consoles = [];
   receivers = 1 ∷ [];
-  events = record { moment = 0; what = Order 0 Go }
+  events = record { moment = 0; what = Order 0 (Plain Go) }
       ∷ record { moment = 0; what = what.Stray 0 0 1 }
       ∷ record { moment = 2000; what = Show 0 } ∷ [];
   strays = 192 ∷ [];

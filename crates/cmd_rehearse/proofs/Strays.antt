@@ -9,8 +9,8 @@ use Rattle.hex.proofs.HexLemmas.{decode_of-ok}
 use Rattle.ascii_text.specs.Text.{words_of}
 use Rattle.ascii_text.specs.Forms.{same_word, moment_of, whole_of}
 use Rattle.uuid.specs.Text.{parsed}
-use Rattle.console.specs.Spelling.{command_of}
-use Rattle.wire_world.specs.declared.event.What.{What}
+use Rattle.console.specs.Spelling.{instruction_of}
+use Rattle.wire_world.specs.declared.happening.Occurrence.{Occurrence}
 use Rattle.cmd_rehearse.specs.declared.said.Said.{Said}
 use Rattle.cmd_rehearse.specs.declared.said.Said.TheVariants.{Nothing, Console, Receiver, Happens}
 use Rattle.cmd_rehearse.specs.declared.said.Said.TheVariants.{Stray, Malformed}
@@ -53,7 +53,7 @@ abbrev FitsIn : ℕ → Option Said → Type 0
 FitsIn n None = Unit {0}
 FitsIn n (Some s) = Fits n s
 
-abbrev IsPlain : Option What → Type 0
+abbrev IsPlain : Option Occurrence → Type 0
 IsPlain None = Unit {0}
 IsPlain (Some what) = IsRange 0 what
 
@@ -89,7 +89,7 @@ stray_fits : (n m r : ℕ) (o : Option (List ℕ)) → size_of o ≤ n
 stray_fits n m r None h = tt
 stray_fits n m r (Some bytes) h = h
 
-plain_fits : (n m : ℕ) (o : Option What) → IsPlain o
+plain_fits : (n m : ℕ) (o : Option Occurrence) → IsPlain o
     → FitsIn n (option_map (λ what. at m what) o)
 plain_fits n m None h = tt
 plain_fits n m (Some what) h = h
@@ -112,7 +112,7 @@ order-fits : (n m : ℕ) (words : List (List ℕ)) → FitsIn n (order_with m wo
 order-fits n m [] = tt
 order-fits n m (a ∷ words) =
     then-holds (FitsIn n) _ (place_of a) tt (λ x.
-    map-holds (FitsIn n) _ (command_of words) tt (λ y. tt))
+    map-holds (FitsIn n) _ (instruction_of words) tt (λ y. tt))
 
 tick-fits : (n m : ℕ) (words : List (List ℕ)) → FitsIn n (tick_with m words)
 tick-fits n m [] = tt

@@ -3,9 +3,9 @@ use Rattle.std.specs.Prelude.{ℕ, Bool, true, false, List, [], ◌∷◌, if◌
 use Rattle.std.specs.Prelude.{length, Option, Some, None, option_map, option_and_then}
 use Rattle.ascii_text.specs.Forms.{same_word, moment_of, whole_of}
 use Rattle.uuid.specs.Text.{parsed}
-use Rattle.console.specs.Spelling.{command_of}
-use Rattle.wire_world.specs.declared.event.What.{What}
-use Rattle.wire_world.specs.declared.event.What.TheVariants.{Order, Tick, Deliver, Show}
+use Rattle.console.specs.Spelling.{instruction_of}
+use Rattle.wire_world.specs.declared.happening.Occurrence.{Occurrence}
+use Rattle.wire_world.specs.declared.happening.Occurrence.TheVariants.{Order, Tick, Deliver, Show}
 use Rattle.cmd_rehearse.specs.Forms.{universe_of, place_of, hex_bytes, digits_in, setup}
 use Rattle.cmd_rehearse.specs.declared.said.Said.{Said}
 use Rattle.cmd_rehearse.specs.declared.said.Said.TheVariants.{Nothing, Console, Receiver, Happens}
@@ -32,15 +32,15 @@ header below said = if below then None else said
 -- ---- events
 
 -- this happens at that moment
-abbrev pub at : ℕ → What → Said
+abbrev pub at : ℕ → Occurrence → Said
 at moment what = Happens (record { moment = moment; what = what })
 
 -- `do C COMMAND`
 abbrev pub order_with : ℕ → List (List ℕ) → Option Said
 order_with moment [] = None
 order_with moment (console ∷ words) =
-    option_and_then (λ c. option_map (λ command. at moment (Order c command)) (command_of words))
-    (place_of console)
+    option_and_then (λ c. option_map (λ instruction. at moment (Order c instruction))
+    (instruction_of words)) (place_of console)
 
 -- `tick C`
 abbrev pub tick_with : ℕ → List (List ℕ) → Option Said
@@ -48,7 +48,7 @@ tick_with moment (console ∷ []) = option_map (λ c. at moment (Tick c)) (place
 tick_with moment _ = None
 
 -- packet K of universe U of console C reaches receiver R
-abbrev pub delivery_with : List ℕ → List ℕ → List ℕ → List ℕ → Option What
+abbrev pub delivery_with : List ℕ → List ℕ → List ℕ → List ℕ → Option Occurrence
 delivery_with receiver console universe k =
     option_and_then (λ r. option_and_then (λ c. option_and_then (λ u.
     option_map (λ n. Deliver r c u n) (moment_of k)) (place_of universe))

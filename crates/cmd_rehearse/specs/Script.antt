@@ -3,9 +3,9 @@ use Rattle.std.specs.Prelude.{◌≡◌, ℕ, ◌+◌, ◌≤◌, Bool, true, fa
 use Rattle.std.specs.Prelude.{if◌then◌else◌, length, Result, Ok, Err}
 use Rattle.ascii_text.specs.Text.{lines_of, words_of, numbered_from}
 use Rattle.wire_world.specs.declared.setup.Setup.{Setup}
-use Rattle.wire_world.specs.declared.event.Event.{Event}
-use Rattle.wire_world.specs.declared.event.What.{What}
-use Rattle.wire_world.specs.declared.event.What.TheVariants as what
+use Rattle.wire_world.specs.declared.happening.Happening.{Happening}
+use Rattle.wire_world.specs.declared.happening.Occurrence.{Occurrence}
+use Rattle.wire_world.specs.declared.happening.Occurrence.TheVariants as what
 use Rattle.cmd_rehearse.specs.declared.said.Said.{Said}
 use Rattle.cmd_rehearse.specs.declared.said.Said.TheVariants.{Nothing, Console, Receiver, Happens}
 use Rattle.cmd_rehearse.specs.declared.said.Said.TheVariants.{Stray, Malformed}
@@ -19,7 +19,7 @@ use Rattle.cmd_rehearse.specs.Said.{script_line, is_of_no_form}
 pub record Parts : Type 0 where
   pub consoles : List Setup
   pub receivers : List ℕ
-  pub events : List Event
+  pub events : List Happening
   pub strays : List ℕ
   pub lines : List ℕ
 
@@ -38,12 +38,12 @@ abbrev pub no_parts : Parts
 no_parts = record { consoles = []; receivers = []; events = []; strays = []; lines = [] }
 
 -- with an event more, of the line of this number
-abbrev pub with_event : Parts → ℕ → Event → Parts
+abbrev pub with_event : Parts → ℕ → Happening → Parts
 with_event p line event =
     record p { events = p.events ++ event ∷ []; lines = p.lines ++ line ∷ [] }
 
 -- a stray whose bytes stand behind those of the strays before it
-abbrev pub stray_behind : List ℕ → ℕ → ℕ → List ℕ → Event
+abbrev pub stray_behind : List ℕ → ℕ → ℕ → List ℕ → Happening
 stray_behind strays moment receiver bytes = record {
   moment = moment;
   what = what.Stray receiver (length strays) (length strays + length bytes);
@@ -81,11 +81,11 @@ abbrev pub script_of : List ℕ → Result Parts ℕ
 script_of text = read_below no_parts (numbered_from 1 (lines_of text))
 
 -- the bytes of a stray are among those of all strays, `size` in number
-abbrev pub IsRange : ℕ → What → Type 0
+abbrev pub IsRange : ℕ → Occurrence → Type 0
 IsRange size (what.Stray receiver from to) = (from ≤ to) × (to ≤ size)
 IsRange size _ = Unit {0}
 
-abbrev pub EventFits : ℕ → Event → Type 0
+abbrev pub EventFits : ℕ → Happening → Type 0
 EventFits size event = IsRange size event.what
 
 -- the words of the first line that has any

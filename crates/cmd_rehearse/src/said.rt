@@ -10,10 +10,10 @@ ghost use Rattle.cmd_rehearse.specs.Said.{delivery_with};
 use crate::console_line::ConsoleLine;
 use crate::hex_bytes::HexBytes;
 use ascii_text::{Words, moment, same_word, whole};
-use console::command_in;
+use console::instruction_in;
 use sacn_packet::TOP_UNIVERSE;
 use uuid::Uuid;
-use wire_world::{Event, What};
+use wire_world::{Happening, Occurrence};
 
 // What a line says.
 #[derive(Debug, Drop)]
@@ -25,7 +25,7 @@ pub enum Said<'a> {
     // There is one more receiver, of this universe.
     Receiver(u16),
     // An event that is not a stray.
-    Happens(Event),
+    Happens(Happening),
     // A datagram of these bytes reaches a receiver.
     Stray {
         moment: u64,
@@ -131,10 +131,10 @@ fn order<'a>(moment: u64, operands: &'a [u8]) -> Option<Said<'a>>
 {
     let mut words = Words::new(operands);
     let console = place(words.next()?)?;
-    let command = command_in(&mut words)?;
-    Some(Said::Happens(Event {
+    let instruction = instruction_in(&mut words)?;
+    Some(Said::Happens(Happening {
         moment,
-        what: What::Order(console, command),
+        what: Occurrence::Order(console, instruction),
     }))
 }
 
@@ -147,9 +147,9 @@ fn tick<'a>(moment: u64, operands: &'a [u8]) -> Option<Said<'a>>
         return None;
     }
     let console = place(word)?;
-    Some(Said::Happens(Event {
+    Some(Said::Happens(Happening {
         moment,
-        what: What::Tick(console),
+        what: Occurrence::Tick(console),
     }))
 }
 
@@ -165,17 +165,17 @@ fn deliver<'a>(moment: u64, operands: &'a [u8]) -> Option<Said<'a>>
         return None;
     }
     let what = delivery_with(receiver, console, universe, k)?;
-    Some(Said::Happens(Event { moment, what }))
+    Some(Said::Happens(Happening { moment, what }))
 }
 
-fn delivery_with(receiver: &[u8], console: &[u8], universe: &[u8], k: &[u8]) -> Option<What>
+fn delivery_with(receiver: &[u8], console: &[u8], universe: &[u8], k: &[u8]) -> Option<Occurrence>
     ensures { result ≡ delivery_with receiver.now console.now universe.now k.now }
 {
     let receiver = place(receiver)?;
     let console = place(console)?;
     let universe = place(universe)?;
     let k = moment(k)?;
-    Some(What::Deliver {
+    Some(Occurrence::Deliver {
         receiver,
         console,
         universe,
@@ -212,9 +212,9 @@ fn slots<'a>(moment: u64, operands: &'a [u8]) -> Option<Said<'a>>
         return None;
     }
     let receiver = place(word)?;
-    Some(Said::Happens(Event {
+    Some(Said::Happens(Happening {
         moment,
-        what: What::Show(receiver),
+        what: Occurrence::Show(receiver),
     }))
 }
 

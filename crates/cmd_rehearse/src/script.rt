@@ -8,7 +8,7 @@ use crate::said::{Said, read_line};
 use ascii_text::{Line, Lines};
 use std::alloc::{AllocError, Global};
 use thiserror::Error;
-use wire_world::{Event, Setup, What};
+use wire_world::{Happening, Occurrence, Setup};
 
 /// A script: what a rehearsal is given.
 #[derive(Debug, Drop)]
@@ -18,7 +18,7 @@ pub struct Script {
     /// The universe of each receiver, 1 to 63999, in their order.
     pub receivers: Vec<u16>,
     /// The events, in their order.
-    pub events: Vec<Event>,
+    pub events: Vec<Happening>,
     /// The bytes of all strays; each stray names its range of them.
     pub strays: Vec<u8>,
     /// Of each event the number of its line, counted from 1.
@@ -49,7 +49,7 @@ impl Script {
         }
     }
 
-    fn push_event(&mut self, line: u32, event: Event) -> Result<(), AllocError>
+    fn push_event(&mut self, line: u32, event: Happening) -> Result<(), AllocError>
         ensures { OnOk result (parts self.new ≡ with_event (parts self.old) line event) }
     {
         self.events.push(event)?;
@@ -76,8 +76,8 @@ impl Script {
                 let from = self.strays.len() as u32;
                 bytes.append_to(alloc, &mut self.strays)?;
                 let to = self.strays.len() as u32;
-                let what = What::Stray { receiver, from, to };
-                self.push_event(line, Event { moment, what })?;
+                let what = Occurrence::Stray { receiver, from, to };
+                self.push_event(line, Happening { moment, what })?;
             }
         }
         Ok(())

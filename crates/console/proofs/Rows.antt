@@ -3,8 +3,8 @@ use Rattle.std.specs.Prelude.{◌≡◌, refl, codes, [], ◌∷◌, Some, None}
 use Rattle.std.specs.Fmt.{digits}
 use Rattle.desk_core.specs.declared.answer.Refused.TheVariants.{AtStart}
 use Rattle.desk_core.specs.declared.answer.Ticked.TheVariants.{Live, Ending}
-use Rattle.desk_core.specs.declared.command.Command.TheVariants.{Go, Goto, GotoIn, Sub, Group}
-use Rattle.desk_core.specs.declared.command.Command.TheVariants.{Master}
+use Rattle.desk_core.specs.declared.command.Command.TheVariants.{Go, Goto, Sub, Group, Master}
+use Rattle.desk_core.specs.declared.instruction.Instruction.TheVariants.{Plain, GotoIn}
 use Rattle.master_core.specs.Settings.{grand_setting, group_setting, sub_setting}
 use Rattle.sacn_source.specs.declared.offered.Offered.TheVariants.{Sent, Lost, Quiet}
 use Rattle.console.specs.declared.call.Call.TheVariants.{Order, Tick}
@@ -14,15 +14,15 @@ use Rattle.console.specs.CueLine.{cue_line}
 use Rattle.console.specs.WhereLine.{groups_text, subs_text, where_line}
 use Rattle.console.specs.Texts.{done_text, moment_line, refused_text, ticked_text}
 
-calls : (reading_of (codes "0 go") ≡ At 0 (Order Go))
+calls : (reading_of (codes "0 go") ≡ At 0 (Order (Plain Go)))
     × (reading_of (codes "2500 TICK ! now") ≡ At 2500 Tick)
-    × (reading_of (codes "5 sub 65535 FL") ≡ At 5 (Order (Sub 65535 255)))
-    × (reading_of (codes "5 group 0 50") ≡ At 5 (Order (Group 0 128)))
-    × (reading_of (codes "007 goto 1.5") ≡ At 7 (Order (Goto 1500)))
+    × (reading_of (codes "5 sub 65535 FL") ≡ At 5 (Order (Plain (Sub 65535 255))))
+    × (reading_of (codes "5 group 0 50") ≡ At 5 (Order (Plain (Group 0 128))))
+    × (reading_of (codes "007 goto 1.5") ≡ At 7 (Order (Plain (Goto 1500))))
     × (reading_of (codes "7 goto 13 in 0") ≡ At 7 (Order (GotoIn 13000 0)))
     × (reading_of (codes "7 GOTO .5 In 1:30.5") ≡ At 7 (Order (GotoIn 500 90500)))
     × (reading_of (codes "7 goto 13 in 99:59.99") ≡ At 7 (Order (GotoIn 13000 5999990)))
-    × (reading_of (codes "1 master H80") ≡ At 1 (Order (Master 128)))
+    × (reading_of (codes "1 master H80") ≡ At 1 (Order (Plain (Master 128))))
     × (reading_of (codes "  ! 0 go") ≡ Blank)
 calls = (refl, refl, refl, refl, refl, refl, refl, refl, refl, refl)
 

@@ -7,7 +7,7 @@ use Rattle.std.proofs.lemmas.List.{map-append}
 use Rattle.std.proofs.lemmas.List.Elements.{All-nil, All-cons}
 use Rattle.std.specs.Prelude.{if◌then◌else◌, slice_get, nat_eq, unwrap_or, All, IfSome}
 use Rattle.std.specs.Option.{option_to_list}
-use Rattle.desk_core.specs.declared.command.Command.{Command}
+use Rattle.desk_core.specs.declared.instruction.Instruction.{Instruction}
 use Rattle.desk_core.specs.Played.{order, tick, tick_at, Act, ticks_since_end, ended_by}
 use Rattle.desk_core.specs.Meaning.{dark, frame, latest_frame}
 use Rattle.desk_core.proofs.FrameSlots.{frame_full}
@@ -22,8 +22,9 @@ get_front [] ys k x e = cc
 get_front (y ∷ xs) ys zero x e = e
 get_front (y ∷ xs) ys (suc k) x e = get_front xs ys k x e
 
--- a command leaves the streams
-pub ended_same : (c : Command) (n : Option ℕ) → unwrap_or (ended_by (order c) n) 0 ≡ unwrap_or n 0
+-- an instruction leaves the streams
+pub ended_same : (c : Instruction) (n : Option ℕ)
+    → unwrap_or (ended_by (order c) n) 0 ≡ unwrap_or n 0
 ended_same c n = grind arith
 
 module _ (c : Production) (u : ℕ) where

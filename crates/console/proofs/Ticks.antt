@@ -9,7 +9,7 @@ use Rattle.devices.specs.Send.{Send}
 use Rattle.desk_core.specs.declared.answer.Refused.{Refused}
 use Rattle.desk_core.specs.declared.answer.Ticked.{Ticked}
 use Rattle.desk_core.specs.declared.answer.Ticked.TheVariants.{Live, Ending}
-use Rattle.desk_core.specs.declared.command.Command.{Command}
+use Rattle.desk_core.specs.declared.instruction.Instruction.{Instruction}
 use Rattle.desk_core.specs.DeskState.{DeskState}
 use Rattle.desk_core.specs.Meaning.{universe_numbers}
 use Rattle.desk_core.specs.Played.{Act, Call, ticks_since_end, ended_by, last_tick, outcome, refusal}
@@ -133,7 +133,7 @@ tick_stands {p = p} {history = history} new moment same is answers stands s =
       t.streams_stand,
     )
 
-pub streams_ordered : (p : Production) (lanes : List Lane) (moment : ℕ) (c : Command)
+pub streams_ordered : (p : Production) (lanes : List Lane) (moment : ℕ) (c : Instruction)
     (history : List Act)
     → HasStreams p lanes history → HasStreams p lanes (order_at moment c ∷ history)
 streams_ordered p lanes moment c history s = record {

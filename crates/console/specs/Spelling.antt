@@ -4,8 +4,10 @@ use Rattle.std.specs.Prelude.{option_map, option_and_then, if◌then◌else◌, 
 use Rattle.ascii_text.specs.Text.{words_of}
 use Rattle.ascii_text.specs.Forms.{same_word, moment_of, cue_number_of, level_of, time_of, whole_of}
 use Rattle.desk_core.specs.declared.command.Command.{Command}
-use Rattle.desk_core.specs.declared.command.Command.TheVariants.{Go, Back, Goto, GotoIn, Sub}
-use Rattle.desk_core.specs.declared.command.Command.TheVariants.{Group, Master, End}
+use Rattle.desk_core.specs.declared.command.Command.TheVariants.{Go, Back, Goto, Sub, Group}
+use Rattle.desk_core.specs.declared.command.Command.TheVariants.{Master, End}
+use Rattle.desk_core.specs.declared.instruction.Instruction.{Instruction}
+use Rattle.desk_core.specs.declared.instruction.Instruction.TheVariants.{Plain, GotoIn}
 use Rattle.desk_core.specs.Played.{Act, order_at, tick_at}
 use Rattle.console.specs.declared.call.Call.{Call}
 use Rattle.console.specs.declared.call.Call.TheVariants.{Order, Tick}
@@ -43,7 +45,7 @@ with_two keyword number operand =
     else None)
 
 -- `goto N in TIME`: a cue number, and a time as behind UP in a show
-abbrev pub with_three : List ℕ → List ℕ → List ℕ → List ℕ → Option Command
+abbrev pub with_three : List ℕ → List ℕ → List ℕ → List ℕ → Option Instruction
 with_three keyword number link operand =
     if same_word keyword (codes "goto") && same_word link (codes "in")
     then option_and_then (λ n. option_map (λ time. GotoIn n time) (time_of operand))
@@ -51,29 +53,29 @@ with_three keyword number link operand =
     else None
 
 -- a keyword and its operands; extra words spell nothing
-abbrev pub command_with : List ℕ → List (List ℕ) → Option Command
-command_with keyword [] = with_none keyword
-command_with keyword (a ∷ []) = with_one keyword a
-command_with keyword (a ∷ b ∷ []) = with_two keyword a b
-command_with keyword (a ∷ b ∷ c ∷ []) = with_three keyword a b c
-command_with keyword (a ∷ b ∷ c ∷ d ∷ rest) = None
+abbrev pub instruction_with : List ℕ → List (List ℕ) → Option Instruction
+instruction_with keyword [] = option_map (λ command. Plain command) (with_none keyword)
+instruction_with keyword (a ∷ []) = option_map (λ command. Plain command) (with_one keyword a)
+instruction_with keyword (a ∷ b ∷ []) = option_map (λ command. Plain command) (with_two keyword a b)
+instruction_with keyword (a ∷ b ∷ c ∷ []) = with_three keyword a b c
+instruction_with keyword (a ∷ b ∷ c ∷ d ∷ rest) = None
 
--- the command that words spell
-abbrev pub command_of : List (List ℕ) → Option Command
-command_of [] = None
-command_of (keyword ∷ operands) = command_with keyword operands
+-- the instruction that words spell
+abbrev pub instruction_of : List (List ℕ) → Option Instruction
+instruction_of [] = None
+instruction_of (keyword ∷ operands) = instruction_with keyword operands
 
 -- a tick has no operands
 abbrev pub tick_of : List (List ℕ) → Option Call
 tick_of [] = Some Tick
 tick_of (word ∷ rest) = None
 
--- the call that words spell: `tick`, or a command
+-- the call that words spell: `tick`, or an instruction
 abbrev pub call_of : List (List ℕ) → Option Call
 call_of [] = None
 call_of (keyword ∷ operands) =
     if same_word keyword (codes "tick") then tick_of operands
-    else option_map (λ command. Order command) (command_with keyword operands)
+    else option_map (λ instruction. Order instruction) (instruction_with keyword operands)
 
 -- the words that are left when a call was read: `tick` and one word are taken, or a keyword and
 -- four
@@ -101,5 +103,5 @@ is_malformed _ = false
 
 -- a call at its moment
 abbrev pub act_of : ℕ → Call → Act
-act_of moment (Order command) = order_at moment command
+act_of moment (Order instruction) = order_at moment instruction
 act_of moment Tick = tick_at moment

@@ -2,7 +2,6 @@
 -- Histories and lists of offers have the newest entry first.
 use Rattle.std.specs.Prelude.{ℕ, ◌-◌, List, [], ◌∷◌, Option, Some, None, length, map, unwrap_or}
 use Rattle.show_core.specs.Tables.{Tables}
-use Rattle.desk_core.specs.declared.command.Command.{Command}
 use Rattle.desk_core.specs.Played.{Call, order, tick, Act, ticks_since_end}
 use Rattle.desk_core.specs.Meaning.{frame, universe_numbers}
 use Rattle.sacn_source.specs.Identity.{Identity}

@@ -16,7 +16,7 @@ ghost use Rattle.console.specs.Streams.{dues_at};
 
 use crate::offers::Offers;
 use crate::tick::offer_all;
-use desk_core::{Command, Desk, Refused, Ticked};
+use desk_core::{Desk, Instruction, Refused, Ticked};
 use fade_core::Fader;
 use master_core::Masters;
 use patch_core::RigFault;
@@ -77,19 +77,19 @@ impl<F: Fader> Console<F> {
         Ok(Console { desk, sender })
     }
 
-    /// Carries out a command.
+    /// Carries out an instruction.
     ///
     /// # Errors
     ///
-    /// As [`Desk::command`]; then nothing changed.
-    pub fn command(&mut self, moment: u64, command: Command) -> Result<(), Refused>
+    /// As [`Desk::order`]; then nothing changed.
+    pub fn order(&mut self, moment: u64, instruction: Instruction) -> Result<(), Refused>
         ensures answer { OfEach F.stands_for self.old (λ production history.
-            result ≡ outcome (refusal production.show history (order_at moment command)) tt) }
+            result ≡ outcome (refusal production.show history (order_at moment instruction)) tt) }
         ensures stands { OnOk result
-            (Leads F.stands_for (order_at moment command) self.old self.new) }
+            (Leads F.stands_for (order_at moment instruction) self.old self.new) }
         ensures unchanged { OnErr result (self.new ≡ self.old) }
     {
-        self.desk.command(moment, command)
+        self.desk.order(moment, instruction)
     }
 
     /// Shows every universe anew, and offers each of them, ascending, its frame or, after End, the

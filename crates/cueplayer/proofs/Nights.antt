@@ -3,10 +3,10 @@ use Rattle.cueplayer.proofs.Terms.{◌≡◌, ℕ, refl, ap, sym, ◌∙◌, Lis
 use Rattle.cueplayer.proofs.Terms.{append-nil, Option, Some, None, Result, inl, inr, codes}
 use Rattle.cueplayer.proofs.Terms.{is_none, if◌then◌else◌, append_cancel_left}
 use Rattle.cueplayer.proofs.Terms.{append_cancel_right, words_of, Call, Order, Tick, At, act_of}
-use Rattle.cueplayer.proofs.Terms.{command_of, reading_of, BoothState, RunFault, LivedOn, Lives}
+use Rattle.cueplayer.proofs.Terms.{instruction_of, reading_of, BoothState, RunFault, LivedOn, Lives}
 use Rattle.cueplayer.proofs.Terms.{Trace, answers_since, trace_of, history_joined, history_since}
 use Rattle.cueplayer.proofs.Terms.{history_of, sends_of_run, acts_after, acts_by, Send, Refused}
-use Rattle.cueplayer.proofs.Terms.{Command, End, Master, latest_frame, Act, order, refusal}
+use Rattle.cueplayer.proofs.Terms.{Instruction, Plain, End, Master, latest_frame, Act, order, refusal}
 use Rattle.cueplayer.proofs.Terms.{Tables, without_keys, accepted_acts, Answer, Happening}
 use Rattle.cueplayer.proofs.Terms.{answer_to, answers, behind_moment, lines_given, with_given}
 use Rattle.cueplayer.proofs.Terms.{recall_of, spelled, recalled_lines, IsPlay, Play, play_history}
@@ -79,25 +79,26 @@ module _ (show : Tables) (history : List Act) where
   spells moment call line e = ap (λ reading. acts_after show reading history) e
       ∙ same_taken (refusal show history (act_of moment call)) (act_of moment call) history
 
-  commands : (o : Option Command) (moment : ℕ) (line : List ℕ) → live.SpellsCommand o moment line
+  instructions : (o : Option Instruction) (moment : ℕ) (line : List ℕ)
+      → live.SpellsInstruction o moment line
       → acts_after show (reading_of (behind_moment moment line)) history
       ≡ live.acts_with show (option_map (λ c. record { moment = moment; call = order c }) o) history
-  commands None moment line s = absurd s
-  commands (Some command) moment line s =
-      spells moment (Order command) (behind_moment moment line) s
+  instructions None moment line s = absurd s
+  instructions (Some instruction) moment line s =
+      spells moment (Order instruction) (behind_moment moment line) s
 
   one : (answer : Answer) (lines : List (List ℕ)) → history_of show lines ≡ history
       → live.IsSpelled answer
       → history_of show (with_given answer lines) ≡ live.acts_with show (live.act_in answer) history
   one (answer.order moment line) lines e s =
       ap (acts_after show (reading_of (behind_moment moment (without_keys line)))) e
-      ∙ commands (command_of (words_of (without_keys line))) moment (without_keys line) s
+      ∙ instructions (instruction_of (words_of (without_keys line))) moment (without_keys line) s
   one (answer.dim moment typed) lines e s =
       ap (acts_after show (reading_of (behind_moment moment (codes "master 0")))) e
-      ∙ spells moment (Order (Master 0)) (behind_moment moment (codes "master 0")) s
+      ∙ spells moment (Order (Plain (Master 0))) (behind_moment moment (codes "master 0")) s
   one (answer.close moment typed) lines e s =
       ap (acts_after show (reading_of (behind_moment moment (codes "end")))) e
-      ∙ spells moment (Order End) (behind_moment moment (codes "end")) s
+      ∙ spells moment (Order (Plain End)) (behind_moment moment (codes "end")) s
   one (answer.tick moment) lines e s =
       ap (acts_after show (reading_of (behind_moment moment (codes "tick")))) e
       ∙ spells moment Tick (behind_moment moment (codes "tick")) s

@@ -6,6 +6,7 @@ use Rattle.std.proofs.Common.{replicate, refl, arith, ◌∙◌, sym, subst, fal
 use Rattle.std.proofs.Common.{◌++◌}
 use Rattle.std.specs.Prelude.{codes, slice_index}
 use Rattle.desk_core.specs.declared.command.Command.TheVariants.{Go}
+use Rattle.desk_core.specs.declared.instruction.Instruction.TheVariants.{Plain}
 use Rattle.desk_core.specs.Meaning.{dark}
 use Rattle.desk_core.proofs.Small.{small, cues, numbers, first_at, frame_1000}
 use Rattle.desk_core.proofs.Small.{frame_2000, no_move}
@@ -40,7 +41,7 @@ of_source byte priority = record {
   source = record { cid = replicate 16 byte; name = []; priority = priority };
 }
 
-go_read : reading_of (codes "0 go") ≡ At 0 (Order Go)
+go_read : reading_of (codes "0 go") ≡ At 0 (Order (Plain Go))
 go_read = refl
 
 tick_read : reading_of (codes "1000 tick") ≡ At 1000 Tick

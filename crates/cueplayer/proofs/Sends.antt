@@ -39,10 +39,10 @@ module _ (p : Production) (u : ℕ) where
   grows_called h moment Tick None sends pairs o =
       stream_ticked p h moment sends pairs
       (record { sends = sends; are_offered = o; after_is = refl }) u
-  grows_called h moment (Order command) None sends pairs o =
-      rw (no_sends o, console.ended_same command (ticks_since_end h)) (append-nil (all h))
+  grows_called h moment (Order instruction) None sends pairs o =
+      rw (no_sends o, console.ended_same instruction (ticks_since_end h)) (append-nil (all h))
   grows_called h moment Tick (Some r) sends pairs o = grows_none h sends (no_sends o)
-  grows_called h moment (Order command) (Some r) sends pairs o = grows_none h sends (no_sends o)
+  grows_called h moment (Order instruction) (Some r) sends pairs o = grows_none h sends (no_sends o)
 
   grows : (h : List Act) (reading : Reading) (sends : List Send) (pairs : List (ℕ × Offered))
       → AreOffered p.source (dues_after p h reading) sends pairs
@@ -110,9 +110,9 @@ module _ (p : Production) where
       → AreOffered p.source (dues_by o call (dues_at p h moment)) sends pairs
       → (x : Send) → In x sends → IsNamed p x
   named_called h moment Tick None sends pairs o = named_due h moment (universes_of p) o
-  named_called h moment (Order command) None sends pairs o = named_none sends (no_sends o)
+  named_called h moment (Order instruction) None sends pairs o = named_none sends (no_sends o)
   named_called h moment Tick (Some r) sends pairs o = named_none sends (no_sends o)
-  named_called h moment (Order command) (Some r) sends pairs o = named_none sends (no_sends o)
+  named_called h moment (Order instruction) (Some r) sends pairs o = named_none sends (no_sends o)
 
   named_line : (h : List Act) (reading : Reading) (sends : List Send) (pairs : List (ℕ × Offered))
       → AreOffered p.source (dues_after p h reading) sends pairs

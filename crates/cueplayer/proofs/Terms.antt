@@ -34,15 +34,16 @@ pub use Rattle.ascii_text.specs.Text.{words_of}
 pub use Rattle.console.specs.declared.call.Call.{Call}
 pub use Rattle.console.specs.declared.call.Call.TheVariants.{Order, Tick}
 pub use Rattle.console.specs.declared.reading.Reading.TheVariants.{At, Blank, Malformed}
-pub use Rattle.console.specs.Spelling.{act_of, command_of, reading_of}
+pub use Rattle.console.specs.Spelling.{act_of, instruction_of, reading_of}
 pub use Rattle.cmd_live.specs.Booth.{BoothState}
 pub use Rattle.cmd_faults.specs.declared.fault.RunFault.{RunFault}
 pub use Rattle.cmd_live.specs.Night.{LivedOn, Lives, Trace, answers_since, trace_of}
 pub use Rattle.cmd_live.proofs.Living.{history_joined, history_since}
 pub use Rattle.devices.specs.Send.{Send}
 pub use Rattle.desk_core.specs.declared.answer.Refused.{Refused}
-pub use Rattle.desk_core.specs.declared.command.Command.{Command}
 pub use Rattle.desk_core.specs.declared.command.Command.TheVariants.{End, Master}
+pub use Rattle.desk_core.specs.declared.instruction.Instruction.{Instruction}
+pub use Rattle.desk_core.specs.declared.instruction.Instruction.TheVariants.{Plain}
 pub use Rattle.desk_core.specs.Meaning.{latest_frame, dark}
 unfoldable pub use Rattle.desk_core.specs.Meaning.{frame, universe_numbers}
 pub use Rattle.desk_core.specs.Played.{Act, order, refusal, ticks_since_end}

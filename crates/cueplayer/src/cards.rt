@@ -2,9 +2,7 @@ use crate::jobs::of_socket_fault;
 use cmd_words::{Name, Night};
 use night_opening::{of_refused_card, of_refused_route};
 use remarks::JobFault;
-use system_devices::{
-    Leaving, Network, NetworkRefusal, SocketFault, SystemCards, read_cards, source_by_name,
-};
+use system_devices::{Leaving, Network, NetworkRefusal, SocketFault, read_cards, source_by_name};
 
 /// Opens the sockets of a night.
 ///
@@ -41,7 +39,7 @@ fn source_of(rt: &HostRuntime, night: &Night) -> Result<Option<[u8; 4]>, JobFaul
         return Ok(None);
     };
     let cards = read_cards(rt);
-    match source_by_name(&mut SystemCards::new(rt), named, &cards) {
+    match source_by_name(rt, named, &cards) {
         Ok(address) => Ok(Some(address)),
         Err(refusal) => Err(of_refused_card(named, &refusal, &cards)),
     }

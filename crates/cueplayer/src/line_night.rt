@@ -1,6 +1,5 @@
 ghost use Rattle.std.specs.Prelude.{◌≤◌};
 
-use crate::cards::open_network;
 use crate::jobs::output;
 use crate::reading::suitable_show;
 use crate::standard::HeldStandard;
@@ -23,8 +22,8 @@ pub fn play_lines(rt: &HostRuntime, night: &Night) -> Result<Remark, JobFault>
 {
     let show = suitable_show(rt, night)?;
     let identity = identity(night)?;
-    let _held = HeldStandard::open(rt)?;
-    let network = RefCell::new(open_network(rt, night, false)?);
+    let held = HeldStandard::open(rt)?;
+    let network = RefCell::new(held.open_network(rt, night)?);
     let mut link = link_of(rt, &network, night);
     let mut input = SystemInput::new(rt.stdin());
     let mut out = output(rt);

@@ -6,8 +6,8 @@ use arrayvec::ArrayVec;
 use cmd_live::{Booth, Heard};
 use devices::{Link, LinkFault};
 use live_input::Reason;
-use live_machine::{BoothMachine, BoothNote, Came, Hearing, NightBooth, NightClock, NightInput};
-use night_lines::{booth_note_line, keys_ignored_line};
+use live_machine::{Came, InputEnd, NightClock, NightInput};
+use night_lines::{input_ended_line, keys_ignored_line, typed_end_line};
 use night_opening::led_refusal_line;
 use night_record::{NightLines, line_moment, where_moment};
 use remarks::refused_line;
@@ -18,16 +18,14 @@ use system_devices::{Record, SystemClock, TypedInput};
 /// It does not tell what it did.
 #[derive(Drop)]
 pub struct LiveBooth<'a> {
-    booth: NightBooth<LiveMachine<'a>>,
-}
-
-// The devices of a booth on this machine. They do not tell.
-#[derive(Drop)]
-struct LiveMachine<'a> {
     rt: &'a HostRuntime,
     clock: NightClock<SystemClock<'a>>,
     input: NightInput<TypedInput<'a>>,
-    night_record: Record,
+    // When the input ended, until that is told.
+    input_end: InputEnd,
+    // While a main leads: the moment of its newest line that has one, and 0 before the first.
+    led: u64,
+    record: Record,
     screen: Screen,
     watch: Option<LinkTeller<'a>>,
 }
@@ -38,122 +36,87 @@ impl<'a> LiveBooth<'a> {
         rt: &'a HostRuntime,
         start: Instant,
         input: NightInput<TypedInput<'a>>,
-        night_record: Record,
+        record: Record,
         screen: Screen,
     ) -> Self {
-        let ends_night = input.ends_night;
-        let machine = LiveMachine {
+        LiveBooth {
             rt,
             clock: NightClock::new(SystemClock::new(rt, Some(start)), 0),
             input,
-            night_record,
+            input_end: InputEnd::new(),
+            led: 0,
+            record,
             screen,
             watch: None,
-        };
-        LiveBooth {
-            booth: NightBooth::new(machine, ends_night),
         }
     }
 
     /// From now on the cards, addresses and routes are watched.
     pub fn watch(&mut self, watch: LinkTeller<'a>) {
-        self.booth.machine.watch = Some(watch);
+        self.watch = Some(watch);
     }
 
     /// The screen.
     pub fn screen(&mut self) -> &mut Screen {
-        &mut self.booth.machine.screen
+        &mut self.screen
     }
 
     /// Keeps a line of a main's record: none is dropped where that may take time.
     pub fn keep_led(&mut self, line: &[u8], may_wait: bool) {
-        self.booth.keep_led(line, line_moment(line), may_wait);
+        self.led = line_moment(line).unwrap_or(self.led);
+        if may_wait {
+            self.record.copy(line, self.screen.messages());
+        } else {
+            self.record.keep(line, self.screen.messages());
+        }
     }
 
-    /// Waits at most so long for what is typed while the night follows a main.
+    /// Waits at most so long for what is typed while the night follows a main. Before that it looks
+    /// at the network, for the moment of the main, and hands on what waits.
+    ///
+    /// # Errors
+    ///
+    /// Where nothing can be waited for.
     pub fn wait_led(
         &mut self,
         milliseconds: u64,
         typed: &mut NightLines,
     ) -> Result<Came, LinkFault> {
-        self.booth.wait_led(milliseconds, typed)
+        self.look(self.led);
+        self.screen.hand_on();
+        typed.hear(&mut self.input.input, milliseconds)
     }
 
     /// Tells that a line which was typed while the night follows a main is not carried out.
     pub fn refuse_led(&mut self, text: &[u8]) {
-        self.screen().tell(led_refusal_line(text).as_slice());
+        self.screen.tell(led_refusal_line(text).as_slice());
     }
 
     /// The night goes on by itself from now on, with this that was typed and is not answered yet.
     pub fn lead(&mut self, now: Instant, typed: ArrayVec<u8, 4096>, has_ended: bool) {
-        let machine = &mut self.booth.machine;
-        machine.clock.clock.start = Some(now);
-        machine.input.hold(typed, has_ended);
+        self.clock.clock.start = Some(now);
+        self.input.hold(typed, has_ended);
     }
 
-    /// Hands on what waits, at the end of the night, and waits for writers.
+    /// Hands on what waits, at the end of the night, and waits for writers: first those of the
+    /// record, since what that lacks is told on the screen.
     pub fn finish(&mut self) {
-        self.booth.finish();
-    }
-}
-
-impl BoothMachine for LiveMachine<'_> {
-    type Typed = NightLines;
-
-    ghost tells = { λ _. ⊥ };
-
-    ghost steps = { λ _. [] };
-
-    fn hand_on(&mut self) {
-        self.screen.hand_on();
+        self.record.finish(self.rt, self.screen.messages());
+        self.screen.finish(self.rt);
     }
 
-    fn moment(&mut self) -> Result<u64, LinkFault> {
-        self.clock.moment()
-    }
-
+    // Looks at the network, and tells for this moment of the night what changed.
     fn look(&mut self, moment: u64) {
         if let Some(watch) = &mut self.watch {
             watch.look(self.rt, moment, &mut self.screen);
         }
     }
 
+    // Tells again, for this moment of the night, what is wrong with the network.
     fn tell_again(&mut self, moment: u64) {
         if let Some(watch) = &self.watch {
             watch.tell_again(self.rt, moment, &mut self.screen);
         }
-    }
-
-    fn hear(&mut self, moment: u64, due: u64, block: &mut [u8; 4096]) -> Result<Came, LinkFault> {
-        self.input.hear(moment, due, block)
-    }
-
-    fn hear_led(&mut self, milliseconds: u64, typed: &mut NightLines) -> Result<Came, LinkFault> {
-        typed.hear(&mut self.input.input, milliseconds)
-    }
-
-    fn tell(&mut self, note: BoothNote) {
-        self.screen.tell(booth_note_line(note).as_bytes());
-    }
-
-    fn keep(&mut self, line: &[u8]) {
-        self.night_record.keep(line, self.screen.messages());
-    }
-
-    fn copy(&mut self, line: &[u8]) {
-        self.night_record.copy(line, self.screen.messages());
-    }
-
-    fn show(&mut self, line: &[u8]) {
-        self.screen.show(line);
-    }
-
-    fn finish_record(&mut self) {
-        self.night_record.finish(self.rt, self.screen.messages());
-    }
-
-    fn finish_screen(&mut self) {
-        self.screen.finish(self.rt);
     }
 }
 
@@ -172,38 +135,57 @@ impl Booth for LiveBooth<'_> {
     } };
 
     fn begin(&mut self, moment: u64) {
-        self.booth.machine.clock.start = moment;
+        self.clock.start = moment;
     }
 
-    // The night asks for the moment at each turn, so what waits is offered again at each.
+    // The night asks for the moment at each turn, so what waits is handed on at each, and the
+    // network is looked at.
     fn moment(&mut self) -> Result<u64, LinkFault> {
-        self.booth.moment()
+        self.screen.hand_on();
+        let moment = self.clock.moment()?;
+        self.look(moment);
+        if self.input_end.is_told(moment) {
+            self.screen.tell(input_ended_line().as_bytes());
+        }
+        Ok(moment)
     }
 
     fn wait(&mut self, moment: u64, due: u64, block: &mut [u8; 4096]) -> Result<Heard, LinkFault> {
-        match self.booth.wait(moment, due, block)? {
-            Hearing::Bytes(count) => Ok(Heard::Bytes(count)),
-            Hearing::End(ends_night) => Ok(Heard::End(ends_night)),
-            Hearing::Nothing => Ok(Heard::Nothing),
+        match self.input.hear(moment, due, block)? {
+            Came::Bytes(count) => Ok(Heard::Bytes(count)),
+            Came::End => {
+                let ends_night = self.input.ends_night;
+                self.input_end.come(moment, ends_night);
+                Ok(Heard::End(ends_night))
+            }
+            Came::TypedEnd => {
+                self.screen.tell(typed_end_line().as_bytes());
+                Ok(Heard::Nothing)
+            }
+            Came::Nothing => Ok(Heard::Nothing),
         }
     }
 
     fn keep<L: Link>(&mut self, line: &[u8], _link: &L) -> Result<(), LinkFault> {
-        self.booth.keep(line);
+        self.record.keep(line, self.screen.messages());
+        self.input_end.pass_line(line);
         Ok(())
     }
 
+    // What is wrong with the network is told again behind where the night is.
     fn show<L: Link>(&mut self, line: &[u8], _link: &L) -> Result<(), LinkFault> {
-        self.booth.show(line, where_moment(line));
+        self.screen.show(line);
+        if let Some(moment) = where_moment(line) {
+            self.tell_again(moment);
+        }
         Ok(())
     }
 
     fn refuse(&mut self, text: &[u8], why: Reason) {
-        self.screen()
-            .tell(refused_line(text, why.text()).as_slice());
+        self.screen.tell(refused_line(text, why.text()).as_slice());
     }
 
     fn ignore_keys(&mut self) {
-        self.screen().tell(keys_ignored_line().as_bytes());
+        self.screen.tell(keys_ignored_line().as_bytes());
     }
 }

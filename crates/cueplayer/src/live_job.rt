@@ -1,23 +1,18 @@
-ghost use Rattle.std.specs.Prelude.{◌≤◌, []};
+ghost use Rattle.std.specs.Prelude.{◌≡◌, ◌≤◌};
 
-use crate::live_devices::Descriptors;
 use crate::live_name::live_name;
+use crate::live_night::{NightEnd, play_alone, play_backup, play_spare};
 use crate::reading::suitable_show;
 use crate::standard::Standard;
-use crate::system_night::SystemNight;
 use cmd_faults::RunFault;
 use cmd_words::Night;
-use live_machine::{NightKind, NightRun, play_night, run_night};
 pub use night_opening::{LiveWords, MainWords, Playbill};
-use remarks::{Failure, JobFault, Refusal};
+use remarks::{Failure, JobFault};
 use sacn_source::Identity;
 use show_jobs::identity;
 use std::fs::symlink_metadata;
 use std::io::ErrorKind;
 use system_devices::remove_unused_record;
-
-/// How a night ended, unless it did not begin.
-type RunEnd = Result<Result<(), Failure>, JobFault>;
 
 /// Plays by the clock what is typed.
 ///
@@ -32,67 +27,63 @@ pub fn play_live(rt: &HostRuntime, mut night: Night, words: LiveWords<'_>) -> Re
         night.name = Some(name);
     }
     let source = identity(&night)?;
-    let night = &night;
-    let mut run = SystemRun {
-        rt,
-        night,
-        words,
-        source,
-    };
-    Ok(run_night(&mut run)??)
+    let before = RecordBefore::look(rt, words.record_file);
+    Ok(before.play(rt, &night, words, source)??)
 }
 
-// A run that plays a live night on this machine. It does not tell its steps.
+// Which record was missing before the night: its file is made for it.
 #[derive(Clone, Copy)]
-struct SystemRun<'r, 'n, 'w> {
-    rt: &'r HostRuntime,
-    night: &'n Night,
-    words: LiveWords<'w>,
-    source: Identity,
+struct RecordBefore<'w> {
+    missing: Option<&'w str>,
 }
 
-impl NightRun for SystemRun<'_, '_, '_> {
-    type End = Result<(), Failure>;
-
-    type Fault = JobFault;
-
-    ghost tells = { λ _. ⊥ };
-
-    ghost steps = { λ _. [] };
-
-    fn is_record_missing(&mut self) -> bool {
-        let Some(name) = self.words.record_file else {
-            return false;
+impl<'w> RecordBefore<'w> {
+    fn look(rt: &HostRuntime, name: Option<&'w str>) -> Self {
+        let Some(name) = name else {
+            return RecordBefore { missing: None };
         };
-        symlink_metadata(self.rt, name).is_err_and(|error| error.kind() == ErrorKind::NotFound)
+        let found = symlink_metadata(rt, name);
+        let is_missing = found.is_err_and(|error| error.kind() == ErrorKind::NotFound);
+        RecordBefore {
+            missing: if is_missing { Some(name) } else { None },
+        }
     }
 
-    fn play(&mut self) -> RunEnd {
-        play_words(self.rt, self.night, self.words, self.source)
-    }
-
-    fn remove_unused_record(&mut self, was_missing: bool) {
-        let made = self.words.record_file.filter(|_| was_missing);
-        remove_unused_record(self.rt, made);
+    // Plays the night, and removes the file that was made for it if it did not begin.
+    fn play(
+        self,
+        rt: &HostRuntime,
+        night: &Night,
+        words: LiveWords<'_>,
+        source: Identity,
+    ) -> NightEnd
+        requires { source.cid ≡ night.now.cid }
+    {
+        let end = play_words(rt, night, words, source);
+        if end.is_err() {
+            remove_unused_record(rt, self.missing);
+        }
+        end
     }
 }
 
-fn play_words(rt: &HostRuntime, night: &Night, words: LiveWords<'_>, source: Identity) -> RunEnd {
+fn play_words(rt: &HostRuntime, night: &Night, words: LiveWords<'_>, source: Identity) -> NightEnd
+    requires { source.cid ≡ night.now.cid }
+{
     let standard = Standard::open(rt)?;
     let show = suitable_show(rt, night)?;
     let mut network = None;
-    let descriptors = Descriptors {
-        standard,
-        network: &mut network,
-    };
     let bill = Playbill {
         night,
         words,
         show: show.as_slice(),
         source,
     };
-    let mut system = SystemNight { rt, bill };
-    let kind = NightKind::of(words.main, words.record_file, words.is_spare);
-    let end = play_night(&mut system, kind, descriptors)?;
-    end.answer(JobFault::Record(Refusal::main_is_over()))
+    match (words.main, words.record_file) {
+        (Some(main), _) => play_backup(rt, &bill, main, standard, &mut network),
+        (None, Some(name)) if words.is_spare => {
+            play_spare(rt, &bill, name, standard, &mut network)
+        }
+        (None, _) => play_alone(rt, &bill, standard, &mut network),
+    }
 }

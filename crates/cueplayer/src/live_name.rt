@@ -1,9 +1,6 @@
-ghost use Rattle.std.specs.Prelude.{[]};
-
 use crate::live_job::LiveWords;
 use crate::reading::{HEAD_PATIENCE, record_lines};
 use cmd_words::Name;
-use night_opening::RecordLook;
 use night_record::FirstLines;
 use std::alloc::AllocError;
 use std::fs::metadata;
@@ -15,33 +12,22 @@ use system_devices::machine_name;
 ///
 /// If an allocation failed.
 pub fn live_name(rt: &HostRuntime, words: LiveWords<'_>) -> Result<Name, AllocError> {
-    let machine = machine_name(rt);
-    night_opening::live_name(
-        rt.alloc(),
-        &mut SystemLook { rt },
-        &words,
-        HEAD_PATIENCE,
-        machine.as_slice(),
-    )
+    let lines = lines_that_go_on(rt, words);
+    night_opening::live_name(rt.alloc(), &lines, machine_name(rt).as_slice())
 }
 
-// Records on this machine. It does not tell.
-#[derive(Drop)]
-struct SystemLook<'a> {
-    rt: &'a HostRuntime,
+// The first lines of the record that is to go on, if they are there: a spare waits for them, which
+// another process may just write.
+fn lines_that_go_on(rt: &HostRuntime, words: LiveWords<'_>) -> Option<FirstLines> {
+    let file = words.record_file?;
+    if !words.resumes || !is_file(rt, file) {
+        return None;
+    }
+    let patience = if words.is_spare { HEAD_PATIENCE } else { 0 };
+    let (lines, _) = record_lines(rt, file, patience).ok()??;
+    Some(lines)
 }
 
-impl RecordLook for SystemLook<'_> {
-    ghost tells = { λ _. ⊥ };
-
-    ghost steps = { λ _. [] };
-
-    fn is_file(&mut self, name: &str) -> bool {
-        metadata(self.rt, name).is_ok_and(|found| found.is_file())
-    }
-
-    fn first_lines(&mut self, name: &str, milliseconds: u64) -> Option<FirstLines> {
-        let (lines, _) = record_lines(self.rt, name, milliseconds).ok()??;
-        Some(lines)
-    }
+fn is_file(rt: &HostRuntime, name: &str) -> bool {
+    metadata(rt, name).is_ok_and(|found| found.is_file())
 }

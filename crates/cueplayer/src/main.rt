@@ -4,14 +4,19 @@
 #![tactic(auto)]
 
 mod cards;
+mod followed_main;
+mod held_record;
 mod jobs;
 pub mod laws;
+mod leading;
 mod line_night;
 mod link_watch;
 mod live_booth;
 mod live_devices;
 mod live_job;
 mod live_name;
+mod live_night;
+mod locked_network;
 mod main_record;
 mod network_lines;
 mod opening;
@@ -21,7 +26,7 @@ mod remarked;
 mod screen;
 mod standard;
 mod start_lines;
-mod system_night;
+mod watched_main;
 mod words;
 
 pub use cmd_faults::{RunFault, exit_status};

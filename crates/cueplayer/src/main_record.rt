@@ -1,23 +1,23 @@
-ghost use Rattle.std.specs.Prelude.{[]};
+ghost use Rattle.std.specs.Prelude.{OnOk};
+ghost use Rattle.cmd_live.specs.Beginning.{CanFollow};
 
+use crate::followed_main::CaughtUp;
 use crate::live_booth::LiveBooth;
 use crate::live_devices::now;
 use crate::live_job::{MainWords, Playbill};
 use crate::opening::head_of;
 use crate::reading::record_lines;
-use cmd_live::{Ending, MainWatch};
-use devices::LinkFault;
-use live_machine::Came;
-use night_lines::{MainNight, Place, led_help_line, led_reminder_line, missing_line};
+use crate::watched_main::WatchedMain;
+use cmd_live::{Backup, Ending, Night, Silent};
+use devices::Link;
+use fade_core::{Fader, StepFader};
+use live_machine::FollowEnd;
+use night_lines::{MainNight, Place};
 use night_opening::lines_to_follow;
-use night_record::{LineFront, NightLines, RecordHead, input_has_ended, kept_line};
-use remarks::JobFault;
-use std::time::{Duration, Instant};
+use night_record::{NightLines, RecordHead};
+use remarks::{JobFault, Refusal};
+use std::time::Instant;
 use system_devices::{AppendedLines, are_lines_there};
-
-// What is typed is waited for so long, in milliseconds, before the main's record is looked at
-// again.
-const TURN: u64 = 5;
 
 /// The record of a main as it grows, behind its head, and what is typed meanwhile.
 #[derive(Drop)]
@@ -62,8 +62,29 @@ impl<'w> MainRecord<'w> {
         })
     }
 
-    // Whether its name still leads to the record, and that has all lines that were given.
-    fn is_there(&self, rt: &HostRuntime) -> bool {
+    /// Takes up what stood in the record when it was opened, over no link; `None` where the night
+    /// is over by then.
+    ///
+    /// # Errors
+    ///
+    /// `Record` at a line that no live night gives.
+    pub fn catch_up<'a>(
+        mut self,
+        rt: &'a HostRuntime,
+        night: &mut Night<StepFader>,
+        booth: &mut LiveBooth<'a>,
+    ) -> Result<Option<CaughtUp<'w>>, JobFault>
+        requires { CanFollow ⟦<StepFader as Fader>⟧.stands_for night.old }
+        ensures { OnOk result (CanFollow ⟦<StepFader as Fader>⟧.stands_for night.new) }
+    {
+        if follow_till_end(rt, night, &mut self, booth, &mut Silent)? {
+            return Ok(None);
+        }
+        Ok(Some(CaughtUp::of(self)))
+    }
+
+    /// Whether its name still leads to the record, and that has all lines that were given.
+    pub fn is_there(&self, rt: &HostRuntime) -> bool {
         are_lines_there(rt, self.words.file, &self.lines)
     }
 
@@ -78,78 +99,51 @@ impl<'w> MainRecord<'w> {
     }
 }
 
-/// Where a main is watched on this machine. It does not tell.
-#[derive(Drop)]
-pub struct WatchedMain<'m, 'w, 'a> {
-    pub rt: &'a HostRuntime,
-    pub main: &'m mut MainRecord<'w>,
-    pub booth: &'m mut LiveBooth<'a>,
-}
-
-impl MainWatch for WatchedMain<'_, '_, '_> {
-    ghost tells = { λ _. ⊥ };
-
-    ghost events = { λ _. [] };
-
-    ghost left = { λ _. [] };
-
-    fn typed_line(&mut self) -> Option<LineFront> {
-        self.main.typed.next_line()
-    }
-
-    fn next_line(&mut self) -> Option<LineFront> {
-        let line = self.main.lines.next_line()?;
-        if let Ok(now) = Instant::now(self.rt) {
-            self.main.last = now;
+/// Follows a main over this link until that ends: whether the night is over then. Where the operator
+/// asks where the night is, that is shown.
+///
+/// # Errors
+///
+/// `Record` at a line that no live night gives.
+pub fn follow_till_end<'a, F: Fader, L: Link>(
+    rt: &'a HostRuntime,
+    night: &mut Night<F>,
+    main: &mut MainRecord<'_>,
+    booth: &mut LiveBooth<'a>,
+    link: &mut L,
+) -> Result<bool, JobFault>
+    requires { CanFollow F.stands_for night.old }
+    ensures { OnOk result (CanFollow F.stands_for night.new) }
+{
+    // One question a nanosecond would last for 584 years.
+    for _turn in 0..u64::MAX {
+        match follow_lines(rt, night, main, booth, link)? {
+            FollowEnd::Asked => night.show_place(booth, link),
+            FollowEnd::Ended => return Ok(false),
+            FollowEnd::Over => return Ok(true),
         }
-        Some(line)
     }
-
-    fn look(&mut self) -> Result<bool, LinkFault> {
-        self.main.lines.look().map_err(|_| LinkFault)
-    }
-
-    fn has_begun(&self) -> bool {
-        self.main.has_begun
-    }
-
-    fn is_there(&mut self) -> bool {
-        self.main.is_there(self.rt)
-    }
-
-    fn time_passed(&mut self) -> Result<Duration, LinkFault> {
-        self.main.last.elapsed(self.rt).map_err(|_| LinkFault)
-    }
-
-    fn wait(&mut self) -> Result<Came, LinkFault> {
-        wait_for_typed(self.booth, self.main)
-    }
-
-    fn keep(&mut self, line: &LineFront) {
-        self.booth
-            .keep_led(kept_line(line).as_slice(), !self.main.has_begun);
-    }
-
-    fn tell_missing(&mut self, line: &LineFront) {
-        let told = missing_line(line.as_slice());
-        self.booth.screen().tell(told.as_slice());
-    }
-
-    fn refuse(&mut self, line: &LineFront) {
-        self.booth.refuse_led(line.as_slice());
-    }
-
-    fn help(&mut self) {
-        self.booth.screen().show(led_help_line().as_bytes());
-    }
-
-    fn remind(&mut self) {
-        self.booth.screen().tell(led_reminder_line().as_bytes());
-    }
+    Ok(false)
 }
 
-fn wait_for_typed(booth: &mut LiveBooth<'_>, main: &mut MainRecord<'_>) -> Result<Came, LinkFault> {
-    let came = booth.wait_led(TURN, &mut main.typed)?;
-    main.input_ended = input_has_ended(main.input_ended, came);
-    Ok(came)
+// Follows a main over this link, and notes why that ended.
+fn follow_lines<'a, F: Fader, L: Link>(
+    rt: &'a HostRuntime,
+    night: &mut Night<F>,
+    main: &mut MainRecord<'_>,
+    booth: &mut LiveBooth<'a>,
+    link: &mut L,
+) -> Result<FollowEnd, JobFault>
+    requires { CanFollow F.stands_for night.old }
+    ensures { OnOk result (CanFollow F.stands_for night.new) }
+{
+    let patience = main.words.patience;
+    let mut backup = Backup::new(WatchedMain { rt, main, booth }, patience);
+    let end = night.follow_main(&mut backup, link);
+    let ending = backup.ending;
+    main.ending = ending;
+    match end {
+        Some(end) => Ok(end),
+        None => Err(JobFault::Record(Refusal::main_line(main.lines.number))),
+    }
 }

@@ -1,25 +1,22 @@
-ghost use Rattle.std.specs.Prelude.{[]};
+use network_tables::Cards;
+use night_lines::{FoundNetwork, NightSources, are_cards_told, host_told, with_route};
+use system_devices::{Network, read_cards, route_to};
 
-use network_tables::{Cards, Route};
-use night_lines::NetworkLookup;
-use system_devices::{read_cards, route_to};
-
-/// The routes and cards of this machine. It does not tell.
-#[derive(Clone, Copy)]
-pub struct SystemLookup<'a> {
-    pub rt: &'a HostRuntime,
-}
-
-impl NetworkLookup for SystemLookup<'_> {
-    ghost tells = { λ _. ⊥ };
-
-    ghost steps = { λ _. [] };
-
-    fn route_to(&mut self, host: [u8; 4]) -> Option<Route> {
-        route_to(self.rt, host)
+/// Looks up what is told at the start of a night of its network: the route to the first host behind
+/// each source, unless a card was named; and the cards, where it is told which others there are.
+pub fn find_network(rt: &HostRuntime, network: &Network, is_named: bool) -> FoundNetwork {
+    let paths = network.paths();
+    let mut sources = NightSources::new();
+    for (place, source) in network.sources().iter().enumerate() {
+        let route = match host_told(paths, place, is_named) {
+            Some(host) => route_to(rt, host),
+            None => None,
+        };
+        let _ = sources.try_push(with_route(source, route));
     }
-
-    fn read_cards(&mut self) -> Cards {
-        read_cards(self.rt)
+    let mut cards = Cards::new();
+    if are_cards_told(paths, is_named) {
+        cards = read_cards(rt);
     }
+    FoundNetwork { sources, cards }
 }

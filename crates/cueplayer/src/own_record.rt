@@ -1,13 +1,16 @@
-ghost use Rattle.std.specs.Prelude.{[]};
+ghost use Rattle.std.specs.Prelude.{[], OnOk};
+ghost use Rattle.cmd_live.specs.Beginning.{CanFollow};
 
+use crate::held_record::HeldRecord;
 use crate::live_job::Playbill;
 use crate::opening::head_of;
 use crate::reading::{HEAD_PATIENCE, record_lines};
-use cmd_live::PlayedRecord;
+use cmd_live::{Night, PlayedRecord, Silent, Spare};
 use devices::LinkFault;
+use fade_core::{Fader, StepFader};
 use night_opening::{lines_to_take_up, opening_behind};
 use night_record::{LineFront, NightOpening};
-use remarks::{JobFault, of_record};
+use remarks::{JobFault, Refusal, of_record};
 use std::thread::sleep;
 use std::time::Duration;
 use system_devices::{AppendedLines, RecordFault, RecordFile, are_lines_there};
@@ -48,16 +51,25 @@ impl<'a> OwnRecord<'a> {
         })
     }
 
-    /// The file, locked, and how the night goes on behind what was given of it in lines.
+    /// Takes the record up over no link, until the process that plays the night has ended.
     ///
     /// # Errors
     ///
-    /// Why it cannot be kept.
-    pub fn into_file(self) -> Result<(RecordFile, NightOpening), JobFault> {
-        let is_there = are_lines_there(self.rt, self.name, &self.lines);
-        let given = self.lines.bytes_given();
-        let opening = opening_behind(self.name, given, self.fault, is_there)?;
-        Ok((self.file, opening))
+    /// `Record` at a line that no live night gives.
+    pub fn stand_by(self, night: &mut Night<StepFader>) -> Result<EndedRecord<'a>, JobFault>
+        requires { CanFollow ⟦<StepFader as Fader>⟧.stands_for night.old }
+        ensures { OnOk result (CanFollow ⟦<StepFader as Fader>⟧.stands_for night.new) }
+    {
+        let mut spare = Spare { record: self };
+        match night.follow_main(&mut spare, &mut Silent) {
+            Some(_) => Ok(EndedRecord {
+                record: spare.record,
+            }),
+            None => {
+                let number = spare.record.lines.number;
+                Err(JobFault::Record(Refusal::spare_line(number)))
+            }
+        }
     }
 
     fn fail<T>(&mut self, fault: RecordFault) -> Result<T, LinkFault> {
@@ -97,5 +109,26 @@ impl PlayedRecord for OwnRecord<'_> {
 
     fn wait_turn(&mut self) {
         sleep(self.rt, Duration::from_millis(TURN));
+    }
+}
+
+/// The record of a night whose process has ended, or that could not be taken up to its end.
+#[derive(Drop)]
+pub struct EndedRecord<'a> {
+    record: OwnRecord<'a>,
+}
+
+impl<'a> EndedRecord<'a> {
+    /// Its file, which this process holds, and how the night goes on behind what was given of it.
+    ///
+    /// # Errors
+    ///
+    /// `Record` where it cannot be kept.
+    pub fn into_held(self) -> Result<(HeldRecord<'a>, NightOpening), JobFault> {
+        let record = self.record;
+        let is_there = are_lines_there(record.rt, record.name, &record.lines);
+        let given = record.lines.bytes_given();
+        let opening = opening_behind(record.name, given, record.fault, is_there)?;
+        Ok((HeldRecord::of(record.name, record.file), opening))
     }
 }

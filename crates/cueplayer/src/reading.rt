@@ -1,15 +1,22 @@
-ghost use Rattle.std.specs.Prelude.{◌≤◌, [], IfErr, IfOk, length};
+ghost use Rattle.std.specs.Prelude.{◌≡◌, ◌≤◌, IfErr, IfOk, IfSome, Ok, length, take};
 ghost use Rattle.cueplayer.specs.Reading.{IsReadingFault};
+ghost use Rattle.night_opening.specs.Fits.{IsFit};
 
 use byte_reading::{Unread, first_bytes};
 use cmd_faults::RunFault;
 use cmd_rehearse::LONGEST_SCRIPT;
 use cmd_words::Night;
-use night_opening::TextSource;
+use night_opening::check_fit;
 use night_record::FirstLines;
 use remarks::{Failure, JobFault};
+use show_reader::LONGEST_TEXT;
+use std::alloc::Global;
 use std::fs::File;
+use std::io::Read;
 use system_devices::{AppendedLines, DeviceFault, lines_in_time};
+
+// One byte more than a show text may have, so that a longer one is seen.
+const MOST_OF_SHOW: usize = LONGEST_TEXT + 1;
 
 // One byte more than a script may have, so that a longer one is seen.
 const MOST_OF_SCRIPT: usize = LONGEST_SCRIPT + 1;
@@ -21,66 +28,80 @@ pub const HEAD_PATIENCE: u64 = 1000;
 ///
 /// # Errors
 ///
-/// As [`night_opening::show_text`].
+/// `Device` where it cannot be read; `Memory` if an allocation failed.
 pub fn show_text(rt: &HostRuntime, name: &str) -> Result<Vec<u8>, Failure>
     ensures most { IfOk result (λ bytes. length bytes.items ≤ 1048577) }
+    ensures fault { IfErr result IsReadingFault }
 {
-    night_opening::show_text(&mut SystemTexts { rt }, name)
+    if name == "-" {
+        return first_text("standard input", rt.alloc(), &mut rt.stdin(), MOST_OF_SHOW);
+    }
+    file_text(rt, name)
 }
 
 /// The first bytes of the show in the file of this name.
 ///
 /// # Errors
 ///
-/// As [`night_opening::file_text`].
+/// As [`show_text`].
 pub fn file_text(rt: &HostRuntime, name: &str) -> Result<Vec<u8>, Failure>
     ensures most { IfOk result (λ bytes. length bytes.items ≤ 1048577) }
+    ensures fault { IfErr result IsReadingFault }
 {
-    night_opening::file_text(&mut SystemTexts { rt }, name)
+    first_text(name, rt.alloc(), &mut open(rt, name)?, MOST_OF_SHOW)
 }
 
 /// The first bytes of the show of a night, which can be played as the night asks.
 ///
 /// # Errors
 ///
-/// As [`night_opening::suitable_show`].
+/// As [`show_text`] and [`check_fit`].
 pub fn suitable_show(rt: &HostRuntime, night: &Night) -> Result<Vec<u8>, JobFault>
     ensures most { IfOk result (λ bytes. length bytes.items ≤ 1048577) }
+    ensures fit { IfOk result (λ bytes. IsFit night.now bytes.items (Ok tt)) }
 {
-    night_opening::suitable_show(rt.alloc(), &mut SystemTexts { rt }, night)
+    let text = file_text(rt, night.show.as_str())?;
+    check_fit(rt.alloc(), night, text.as_slice())?;
+    Ok(text)
 }
 
 /// The first bytes of the script in the file of this name.
 ///
 /// # Errors
 ///
-/// As [`night_opening::first_text`].
+/// As [`show_text`].
 pub fn script_text(rt: &HostRuntime, name: &str) -> Result<Vec<u8>, Failure>
     ensures most { IfOk result (λ bytes. length bytes.items ≤ 16777217) }
+    ensures fault { IfErr result IsReadingFault }
 {
-    night_opening::first_text(&mut SystemTexts { rt }, name, MOST_OF_SCRIPT)
+    first_text(name, rt.alloc(), &mut open(rt, name)?, MOST_OF_SCRIPT)
 }
 
-// The files and the standard input of this process. They do not tell.
-#[derive(Drop)]
-struct SystemTexts<'a> {
-    rt: &'a HostRuntime,
-}
-
-impl TextSource for SystemTexts<'_> {
-    ghost tells = { λ _. ⊥ };
-
-    ghost steps = { λ _. [] };
-
-    fn standard_input(&mut self, most: usize) -> Result<Vec<u8>, Unread> {
-        first_bytes(self.rt.alloc(), &mut self.rt.stdin(), most)
+fn open(rt: &HostRuntime, name: &str) -> Result<File, Failure>
+    ensures fault { IfErr result IsReadingFault }
+{
+    match File::open(rt, name) {
+        Ok(file) => Ok(file),
+        Err(error) => Err(Failure::of_device(name, error.kind())),
     }
+}
 
-    fn file(&mut self, name: &str, most: usize) -> Result<Vec<u8>, Unread> {
-        match File::open(self.rt, name) {
-            Ok(mut file) => first_bytes(self.rt.alloc(), &mut file, most),
-            Err(error) => Err(Unread::Device(error.kind())),
-        }
+// The first bytes of an input of this name, at most so many.
+fn first_text<R: Read>(
+    name: &str,
+    alloc: Global,
+    input: &mut R,
+    most: usize,
+) -> Result<Vec<u8>, Failure>
+    ensures most { IfOk result (λ bytes. length bytes.items ≤ most) }
+    ensures fault { IfErr result IsReadingFault }
+    ensures first { IfOk result (λ bytes. IfSome (R.remaining input.old)
+        (λ left. bytes.items ≡ take most left)) }
+{
+    match first_bytes(alloc, input, most) {
+        Ok(bytes) => Ok(bytes),
+        Err(Unread::Device(kind)) => Err(Failure::of_device(name, kind)),
+        Err(Unread::Memory) => Err(Failure::from(RunFault::Memory)),
     }
 }
 

@@ -1,11 +1,10 @@
-ghost use Rattle.std.specs.Prelude.{[]};
-
-use night_opening::{StandardStream, StandardStreams, ask_for_screen};
-use remarks::{Failure, of_missing};
+use crate::cards::open_network;
+use cmd_words::Night;
+use remarks::{Failure, JobFault, of_missing};
 use std::fs::{File, OpenOptions};
 use std::io::ErrorKind;
 use std::os::fd::AsFd;
-use system_devices::{Messages, TypedInput, open_messages};
+use system_devices::{Messages, Network, TypedInput, open_messages};
 
 /// The descriptors that a live night was started with. Standard error may be closed.
 #[derive(Drop)]
@@ -20,29 +19,13 @@ impl<'a> Standard<'a> {
     /// `Device` where standard output is closed, or standard input cannot be waited for; `Memory`
     /// if an allocation failed.
     pub fn open(rt: &'a HostRuntime) -> Result<Self, Failure> {
-        let is_told = ask_for_screen(&mut Descriptors { rt })?;
+        if let Err(kind) = ask_for(&rt.stdout()) {
+            return Err(Failure::of_device("standard output", kind));
+        }
+        let is_told = ask_for(&rt.stderr()).is_ok();
         let input = TypedInput::open(rt).map_err(|fault| of_missing(fault))?;
         let messages = open_messages(rt, is_told).map_err(|fault| of_missing(fault))?;
         Ok(Standard { input, messages })
-    }
-}
-
-// The descriptors of this process. They do not tell.
-#[derive(Drop)]
-struct Descriptors<'a> {
-    rt: &'a HostRuntime,
-}
-
-impl StandardStreams for Descriptors<'_> {
-    ghost tells = { λ _. ⊥ };
-
-    ghost steps = { λ _. [] };
-
-    fn ask(&mut self, stream: StandardStream) -> Result<(), ErrorKind> {
-        match stream {
-            StandardStream::Output => ask_for(&self.rt.stdout()),
-            StandardStream::Error => ask_for(&self.rt.stderr()),
-        }
     }
 }
 
@@ -74,6 +57,15 @@ impl HeldStandard {
             _output: hold(rt, &rt.stdout(), false)?,
             _error: hold(rt, &rt.stderr(), false)?,
         })
+    }
+
+    /// Opens the sockets of a night while these are held.
+    ///
+    /// # Errors
+    ///
+    /// As those of [`open_network`].
+    pub fn open_network(&self, rt: &HostRuntime, night: &Night) -> Result<Network, JobFault> {
+        open_network(rt, night, false)
     }
 }
 

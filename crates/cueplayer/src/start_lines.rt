@@ -1,9 +1,9 @@
-use crate::network_lines::SystemLookup;
+use crate::network_lines::find_network;
 use crate::screen::Screen;
 use cmd_faults::RunFault;
 use cmd_words::Night;
 use night_lines::{MainNight, Recording};
-use night_opening::{NightAtStart, is_interruptible, tell_night_start};
+use night_opening::{NightAtStart, is_interruptible, night_start_lines};
 use std::env;
 use system_devices::Network;
 
@@ -28,15 +28,19 @@ impl StartLines<'_, '_, '_> {
     ///
     /// `Show`, `Base` or `Memory`. Then nothing is told.
     pub fn tell(&self, rt: &HostRuntime, screen: &mut Screen) -> Result<(), RunFault> {
+        let found = find_network(rt, self.network, self.night.interface.is_some());
         let night = NightAtStart {
             night: self.night,
             show: self.show,
-            sources: self.network.sources(),
             paths: self.network.paths(),
             recording: self.recorded,
             main: self.followed,
             is_interruptible: is_interruptible(&env::var(rt, INTERRUPTS))?,
         };
-        tell_night_start(rt.alloc(), &night, &mut SystemLookup { rt }, screen)
+        let lines = night_start_lines(rt.alloc(), &night, &found)?;
+        for line in lines.as_slice() {
+            screen.tell(line.bytes.as_slice());
+        }
+        Ok(())
     }
 }

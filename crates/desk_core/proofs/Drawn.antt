@@ -5,8 +5,8 @@ use Rattle.desk_core.proofs.Terms.{IfSome, max, map, replicate, slice_get, range
 use Rattle.desk_core.proofs.Terms.{length-replicate, get_or-replicate, slice_get-get_or, is_channel}
 use Rattle.desk_core.proofs.Terms.{slot_of, PatchMap, value_in, Tables, playback_level, greatest_in}
 use Rattle.desk_core.proofs.Terms.{merged_after, sub_after, group_after, grand_after, listed_level}
-use Rattle.desk_core.proofs.Terms.{dimmer_slot, frame_of, AreDrawn, Command, Go, Back, Goto, GotoIn, Sub}
-use Rattle.desk_core.proofs.Terms.{Group, Master, End, false≢true, keeps_floors, dark, channel_level}
+use Rattle.desk_core.proofs.Terms.{dimmer_slot, frame_of, AreDrawn, Instruction, Plain, GotoIn, Go, Back}
+use Rattle.desk_core.proofs.Terms.{Goto, Sub, Group, Master, End, false≢true, keeps_floors, dark, channel_level}
 use Rattle.desk_core.proofs.Terms.{frame, Move, with_due, moves_by, with_due-again, Act, order, tick}
 use Rattle.desk_core.proofs.Terms.{ticks_since_end, moves, settings}
 use Rattle.std.specs.FinMap as maps
@@ -33,24 +33,24 @@ merged_level show history made floors channel moment latest level is same floor 
     (max (greatest_in show.subs (sub_after (settings history)) channel) (greatest_in show.groups
     (group_after (settings history)) channel))
 
--- the floors after a command that keeps them
-pub floors_same : (show : Tables) (history : List Act) (moment channel : ℕ) (command : Command)
-    → keeps_floors command ≡ true
+-- the floors after an instruction that keeps them
+pub floors_same : (show : Tables) (history : List Act) (moment channel : ℕ)
+    (instruction : Instruction) → keeps_floors instruction ≡ true
     → merged_after show (settings history) channel 0 ≡ merged_after show (settings (record {
       moment =
           moment;
-      call = order command;
+      call = order instruction;
     } ∷ history)) channel 0
-floors_same show history moment channel Go h = refl
-floors_same show history moment channel Back h = refl
-floors_same show history moment channel (Goto n) h = refl
+floors_same show history moment channel (Plain Go) h = refl
+floors_same show history moment channel (Plain Back) h = refl
+floors_same show history moment channel (Plain (Goto n)) h = refl
 floors_same show history moment channel (GotoIn n time) h = refl
-floors_same show history moment channel (Sub n byte) h = absurd (false≢true h)
-floors_same show history moment channel (Group n byte) h = absurd (false≢true h)
-floors_same show history moment channel (Master byte) h = refl
-floors_same show history moment channel End h = refl
+floors_same show history moment channel (Plain (Sub n byte)) h = absurd (false≢true h)
+floors_same show history moment channel (Plain (Group n byte)) h = absurd (false≢true h)
+floors_same show history moment channel (Plain (Master byte)) h = refl
+floors_same show history moment channel (Plain End) h = refl
 
--- floors that are current behind a command were so before it, and the command keeps them
+-- floors that are current behind an instruction were so before it, and it keeps them
 pub floors_stay : (state : FloorState) (keeps : Bool)
     → IsTrue (are_current (cond keeps state Stale)) → IsTrue (are_current state) × IsTrue keeps
 floors_stay state true h = (h, refl)

@@ -9,8 +9,9 @@ use Rattle.show_core.specs.Tables.{LevelMap, Tables}
 use Rattle.fade_core.specs.Level.{split_fade}
 use Rattle.master_core.specs.Settings.{grand_after}
 use Rattle.patch_core.specs.Frame.{dimmer_slot}
-use Rattle.desk_core.specs.declared.command.Command.TheVariants.{Go, Back, Goto, GotoIn, Sub}
-use Rattle.desk_core.specs.declared.command.Command.TheVariants.{Group, Master, End}
+use Rattle.desk_core.specs.declared.command.Command.TheVariants.{Go, Back, Goto, Sub, Group}
+use Rattle.desk_core.specs.declared.command.Command.TheVariants.{Master, End}
+use Rattle.desk_core.specs.declared.instruction.Instruction.TheVariants.{Plain, GotoIn}
 use Rattle.desk_core.specs.declared.answer.Ticked.TheVariants.{Live, Ending}
 use Rattle.desk_core.specs.declared.answer.Refused.TheVariants.{Backwards, MomentTooLarge, Ended}
 use Rattle.desk_core.specs.declared.answer.Refused.TheVariants.{TooSoon, AtEnd, AtStart, NoCue}
@@ -86,15 +87,15 @@ module _ (show : Tables) (is : IsSmall show) where
   one_tick : List Act
   one_tick = at 100 tick ∷ []
 
-  desk_refusals : (refusal show one_tick (at 99 (order Go)) ≡ Some Backwards)
+  desk_refusals : (refusal show one_tick (at 99 (order (Plain Go))) ≡ Some Backwards)
       × (refusal show one_tick (at 110 tick) ≡ Some TooSoon)
       × (refusal show one_tick (at 281474976710656 tick) ≡ Some MomentTooLarge)
       × (refusal show one_tick (at 281474976710655 tick) ≡ None)
-      × (refusal show one_tick (at 100 (order (Goto 3000))) ≡ Some NoCue)
+      × (refusal show one_tick (at 100 (order (Plain (Goto 3000)))) ≡ Some NoCue)
       × (refusal show one_tick (at 100 (order (GotoIn 3000 0))) ≡ Some NoCue)
-      × (refusal show one_tick (at 100 (order (Sub 2 1))) ≡ Some NoSub)
-      × (refusal show one_tick (at 100 (order (Group 1 1))) ≡ Some NoGroup)
-      × (refusal show one_tick (at 100 (order Go)) ≡ None)
+      × (refusal show one_tick (at 100 (order (Plain (Sub 2 1)))) ≡ Some NoSub)
+      × (refusal show one_tick (at 100 (order (Plain (Group 1 1)))) ≡ Some NoGroup)
+      × (refusal show one_tick (at 100 (order (Plain Go))) ≡ None)
   unfolding one_tick
   desk_refusals = (
     refl,
@@ -109,25 +110,25 @@ module _ (show : Tables) (is : IsSmall show) where
   )
 
   -- equal moments pass, and the gap is counted from the last tick
-  tick_gap : (refusal show (at 100 (order Go) ∷ at 90 tick ∷ []) (at 113 tick) ≡ None)
-      × (refusal show (at 100 (order Go) ∷ at 90 tick ∷ []) (at 112 tick) ≡ Some TooSoon)
-      × (refusal show (at 100 (order Go) ∷ []) (at 100 tick) ≡ None)
+  tick_gap : (refusal show (at 100 (order (Plain Go)) ∷ at 90 tick ∷ []) (at 113 tick) ≡ None)
+      × (refusal show (at 100 (order (Plain Go)) ∷ at 90 tick ∷ []) (at 112 tick) ≡ Some TooSoon)
+      × (refusal show (at 100 (order (Plain Go)) ∷ []) (at 100 tick) ≡ None)
   tick_gap = (refl, refl, refl)
 
   end_at : ℕ → List Act
-  end_at moment = at moment (order End) ∷ []
+  end_at moment = at moment (order (Plain End)) ∷ []
 
-  after_end : (refusal show (end_at 200) (at 281474976710656 (order Go)) ≡ Some MomentTooLarge)
-      × (refusal show (end_at 200) (at 200 (order Go)) ≡ Some Ended)
-      × (refusal show (end_at 200) (at 200 (order End)) ≡ Some Ended)
+  after_end : (refusal show (end_at 200) (at 281474976710656 (order (Plain Go))) ≡ Some MomentTooLarge)
+      × (refusal show (end_at 200) (at 200 (order (Plain Go))) ≡ Some Ended)
+      × (refusal show (end_at 200) (at 200 (order (Plain End))) ≡ Some Ended)
   unfolding end_at
   after_end = (refl, refl, refl)
 
   three_ticks : List Act
   three_ticks = at 46 tick ∷ at 23 tick ∷ at 0 tick ∷ end_at 0
 
-  play_refusals : (refusal show [] (at 0 (order Back)) ≡ Some AtStart)
-      × (refusal show (end_at 0) (at 0 (order Go)) ≡ Some Ended)
+  play_refusals : (refusal show [] (at 0 (order (Plain Back))) ≡ Some AtStart)
+      × (refusal show (end_at 0) (at 0 (order (Plain Go))) ≡ Some Ended)
       × (refusal show (end_at 0) (at 0 tick) ≡ None)
       × (tick_answer (ticks_since_end []) ≡ Live)
       × (tick_answer (ticks_since_end (end_at 0)) ≡ Ending 1)
@@ -143,12 +144,12 @@ module _ (show : Tables) (is : IsSmall show) where
   unfolding end_at three_ticks
   over_first = refl
 
-  at_end : refusal show (at 0 (order Go) ∷ at 0 (order Go) ∷ []) (at 0 (order Go)) ≡ Some AtEnd
+  at_end : refusal show (at 0 (order (Plain Go)) ∷ at 0 (order (Plain Go)) ∷ []) (at 0 (order (Plain Go))) ≡ Some AtEnd
   at_end = simp (no_move, after_first, after_second, is.cues_are) refl
 
   -- ---- frames
 
-  dark_before_first_tick : (ordinal : ℕ) → latest_frame show (at 0 (order Go) ∷ []) ordinal ≡ dark
+  dark_before_first_tick : (ordinal : ℕ) → latest_frame show (at 0 (order (Plain Go)) ∷ []) ordinal ≡ dark
   dark_before_first_tick ordinal = refl
 
   dark_after_end : latest_frame show three_ticks 0 ≡ dark
@@ -171,7 +172,7 @@ module _ (show : Tables) (is : IsSmall show) where
       ∙ rw (map.get-entries show.patch 2, is.patch_is, level_is, grand_is) refl
 
   go_at_0 : List Act
-  go_at_0 = at 0 (order Go) ∷ []
+  go_at_0 = at 0 (order (Plain Go)) ∷ []
 
   five_second_fade-level : channel_level show go_at_0 2500 1 ≡ 32512
   unfolding go_at_0 split_fade
@@ -242,7 +243,7 @@ module _ (show : Tables) (is : IsSmall show) where
   five_second_fade-5000 = slot_1 go_at_0 5000 65025 255 refl five_second_fade-5000-level refl
 
   two_goes : List Act
-  two_goes = at 10000 (order Go) ∷ at 0 (order Go) ∷ []
+  two_goes = at 10000 (order (Plain Go)) ∷ at 0 (order (Plain Go)) ∷ []
 
   split_crossfade-level : channel_level show two_goes 11000 1 ≡ 48769
   unfolding two_goes split_fade
@@ -300,7 +301,7 @@ module _ (show : Tables) (is : IsSmall show) where
   split_crossfade-2 = slot_2 two_goes 11000 32512 255 refl split_crossfade-2-level refl
 
   returned : List Act
-  returned = at 11000 (order (Goto 1000)) ∷ at 11000 tick ∷ two_goes
+  returned = at 11000 (order (Plain (Goto 1000))) ∷ at 11000 tick ∷ two_goes
 
   goto_mid_fade-level : channel_level show returned 12000 1 ≡ 52020
   unfolding returned two_goes split_fade
@@ -358,7 +359,7 @@ module _ (show : Tables) (is : IsSmall show) where
 
   -- half way up cue 1, cue 2 in eight seconds: two seconds later each channel has gone a quarter
   slowed : List Act
-  slowed = at 2500 (order (GotoIn 2000 8000)) ∷ at 0 (order Go) ∷ []
+  slowed = at 2500 (order (GotoIn 2000 8000)) ∷ at 0 (order (Plain Go)) ∷ []
 
   goto_in_mid_fade-level : channel_level show slowed 4500 1 ≡ 24384
   unfolding slowed split_fade
@@ -412,7 +413,7 @@ module _ (show : Tables) (is : IsSmall show) where
 
   -- cue 1 at once, and then cue 2 over its own times
   snapped : List Act
-  snapped = at 1000 (order Go) ∷ at 0 (order (GotoIn 1000 0)) ∷ []
+  snapped = at 1000 (order (Plain Go)) ∷ at 0 (order (GotoIn 1000 0)) ∷ []
 
   goto_in_then_go-level : channel_level show snapped 2000 1 ≡ 48769
   unfolding snapped split_fade
@@ -440,7 +441,7 @@ module _ (show : Tables) (is : IsSmall show) where
   goto_in_then_go = slot_1 snapped 2000 48769 255 refl goto_in_then_go-level refl
 
   sub_at_half : List Act
-  sub_at_half = at 0 (order (Sub 1 128)) ∷ []
+  sub_at_half = at 0 (order (Plain (Sub 1 128))) ∷ []
 
   submaster_and_grand-half-level : channel_level show sub_at_half 0 1 ≡ 16384
   unfolding sub_at_half split_fade
@@ -452,7 +453,7 @@ module _ (show : Tables) (is : IsSmall show) where
   submaster_and_grand-half = slot_1 sub_at_half 0 16384 255 refl submaster_and_grand-half-level refl
 
   sub_at_full : List Act
-  sub_at_full = at 25 (order (Sub 1 255)) ∷ at 0 tick ∷ sub_at_half
+  sub_at_full = at 25 (order (Plain (Sub 1 255))) ∷ at 0 tick ∷ sub_at_half
 
   submaster_and_grand-full-level : channel_level show sub_at_full 25 1 ≡ 32640
   unfolding sub_at_full sub_at_half split_fade
@@ -465,7 +466,7 @@ module _ (show : Tables) (is : IsSmall show) where
       refl
 
   grand_at_half : List Act
-  grand_at_half = at 5125 (order (Master 128)) ∷ at 5100 tick ∷ at 100 (order Go) ∷ at 25
+  grand_at_half = at 5125 (order (Plain (Master 128))) ∷ at 5100 tick ∷ at 100 (order (Plain Go)) ∷ at 25
       tick ∷ sub_at_full
 
   submaster_and_grand-level : channel_level show grand_at_half 5125 1 ≡ 65025

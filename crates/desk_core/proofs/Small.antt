@@ -5,7 +5,7 @@ use Rattle.desk_core.proofs.Terms.{◌≡◌, ℕ, true, List, [], ◌∷◌, Op
 use Rattle.desk_core.proofs.Terms.{range_with_len, option_map_or, nat_cmp, CueData, slot_of, LevelMap}
 use Rattle.desk_core.proofs.Terms.{Tables, split_fade, grand_after, frame_of, is_base, Go, Sub, Move}
 use Rattle.desk_core.proofs.Terms.{with_due, with_due-none, move_to, Act, ticks_since_end, order}
-use Rattle.desk_core.proofs.Terms.{settings, tick, channel_level, frame, universe_numbers}
+use Rattle.desk_core.proofs.Terms.{Plain, settings, tick, channel_level, frame, universe_numbers}
 use Rattle.std.proofs.Common.{map, replicate}
 use Rattle.std.specs.FinMap as map
 
@@ -119,10 +119,10 @@ frame_first h t level live grand levels =
     ++ replicate 510 0) levels ∙ rw grand)
 
 abbrev at_go : List Act
-at_go = record { moment = 0; call = order Go } ∷ []
+at_go = record { moment = 0; call = order (Plain Go) } ∷ []
 
 abbrev at_sub : ℕ → List Act
-at_sub byte = record { moment = 0; call = order (Sub 1 byte) } ∷ []
+at_sub byte = record { moment = 0; call = order (Plain (Sub 1 byte)) } ∷ []
 
 abbrev at_1000 : List Act
 at_1000 = record { moment = 1000; call = tick } ∷ at_go

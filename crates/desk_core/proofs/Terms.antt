@@ -22,9 +22,10 @@ pub use Rattle.patch_core.specs.Frame.{listed_level, dimmer_slot, frame_of, AreD
 unfoldable pub use Rattle.patch_core.specs.Frame.{is_base}
 pub use Rattle.patch_core.specs.Frame.{is_universe}
 unfoldable pub use Rattle.patch_core.specs.Frame.{frames_in}
-pub use Rattle.desk_core.specs.declared.command.Command.{Command}
-pub use Rattle.desk_core.specs.declared.command.Command.TheVariants.{Go, Back, Goto, GotoIn, Sub, Group}
+pub use Rattle.desk_core.specs.declared.command.Command.TheVariants.{Go, Back, Goto, Sub, Group}
 pub use Rattle.desk_core.specs.declared.command.Command.TheVariants.{Master, End}
+pub use Rattle.desk_core.specs.declared.instruction.Instruction.{Instruction}
+pub use Rattle.desk_core.specs.declared.instruction.Instruction.TheVariants.{Plain, GotoIn}
 pub use Rattle.std.proofs.lemmas.Bool.{false≢true, cond_both}
 pub use Rattle.desk_core.specs.Stands.{keeps_floors, StandsFor}
 pub use Rattle.desk_core.specs.Meaning.{dark, channel_level, latest_frame}

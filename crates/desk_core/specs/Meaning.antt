@@ -36,7 +36,7 @@ latest_frame show (act ∷ older) ordinal =
     shown_by act.call (frame show older act.moment ordinal) (latest_frame show older ordinal) where
       shown_by : Call → List ℕ → List ℕ → List ℕ
       shown_by tick new before = new
-      shown_by (order command) new before = before
+      shown_by (order instruction) new before = before
 
 -- the numbers of the universes (E1.31, Universe) that have a patched dimmer: the base plus the
 -- ordinal

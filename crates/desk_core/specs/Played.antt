@@ -9,9 +9,10 @@ use Rattle.show_core.specs.Tables.{Tables}
 use Rattle.playback_core.specs.Played.{Move, current_after, go_target, back_target, goto_target}
 use Rattle.playback_core.specs.Played.{with_due, moves_by}
 use Rattle.master_core.specs.Settings.{Setting, sub_setting, group_setting, grand_setting}
-use Rattle.desk_core.specs.declared.command.Command.{Command}
-use Rattle.desk_core.specs.declared.command.Command.TheVariants.{Go, Back, Goto, GotoIn, Sub}
-use Rattle.desk_core.specs.declared.command.Command.TheVariants.{Group, Master, End}
+use Rattle.desk_core.specs.declared.command.Command.TheVariants.{Go, Back, Goto, Sub, Group}
+use Rattle.desk_core.specs.declared.command.Command.TheVariants.{Master, End}
+use Rattle.desk_core.specs.declared.instruction.Instruction.{Instruction}
+use Rattle.desk_core.specs.declared.instruction.Instruction.TheVariants.{Plain, GotoIn}
 use Rattle.desk_core.specs.declared.answer.Ticked.{Ticked}
 use Rattle.desk_core.specs.declared.answer.Ticked.TheVariants.{Live, Ending}
 use Rattle.desk_core.specs.declared.answer.Refused.{Refused}
@@ -19,9 +20,9 @@ use Rattle.desk_core.specs.declared.answer.Refused.TheVariants.{Backwards, Momen
 use Rattle.desk_core.specs.declared.answer.Refused.TheVariants.{TooSoon, AtEnd, AtStart, NoCue}
 use Rattle.desk_core.specs.declared.answer.Refused.TheVariants.{NoSub, NoGroup}
 
--- a call: a command of the operator, or a tick, at which the universes are shown anew
+-- a call: an instruction of the operator, or a tick, at which the universes are shown anew
 pub data Call : Type 0 where
-  order : Command → Call
+  order : Instruction → Call
   tick : Call
 
 -- a call at its moment, in milliseconds. A history is the list of the calls that were accepted, the
@@ -30,8 +31,8 @@ pub record Act : Type 0 where
   pub moment : ℕ
   pub call : Call
 
-abbrev pub order_at : ℕ → Command → Act
-order_at moment command = record { moment = moment; call = order command }
+abbrev pub order_at : ℕ → Instruction → Act
+order_at moment instruction = record { moment = moment; call = order instruction }
 
 abbrev pub tick_at : ℕ → Act
 tick_at moment = record { moment = moment; call = tick }
@@ -49,11 +50,11 @@ last_tick [] = None
 last_tick (act ∷ older) = ticked_at act.call act.moment (last_tick older) where
   ticked_at : Call → ℕ → Option ℕ → Option ℕ
   ticked_at tick moment before = Some moment
-  ticked_at (order command) moment before = before
+  ticked_at (order instruction) moment before = before
 
 -- End begins the count of the ticks that end the streams
 abbrev pub ended_by : Call → Option ℕ → Option ℕ
-ended_by (order End) None = Some 0
+ended_by (order (Plain End)) None = Some 0
 ended_by tick (Some ticks) = Some (ticks + 1)
 ended_by _ ended = ended
 
@@ -64,9 +65,9 @@ ticks_since_end (act ∷ older) = ended_by act.call (ticks_since_end older)
 
 -- the cue that a call moves to, from the current one
 abbrev pub target : Tables → Option ℕ → Call → Option ℕ
-target show current (order Go) = go_target show.cues current
-target show current (order Back) = back_target show.cues current
-target show current (order (Goto n)) = goto_target show.cues n
+target show current (order (Plain Go)) = go_target show.cues current
+target show current (order (Plain Back)) = back_target show.cues current
+target show current (order (Plain (Goto n))) = goto_target show.cues n
 target show current (order (GotoIn n time)) = goto_target show.cues n
 target show current _ = None
 
@@ -90,9 +91,9 @@ moves show (act ∷ older) =
 
 -- a setting more, where the call sets a master
 abbrev pub set_by : Call → List Setting → List Setting
-set_by (order (Sub n byte)) older = sub_setting n byte ∷ older
-set_by (order (Group n byte)) older = group_setting n byte ∷ older
-set_by (order (Master byte)) older = grand_setting byte ∷ older
+set_by (order (Plain (Sub n byte))) older = sub_setting n byte ∷ older
+set_by (order (Plain (Group n byte))) older = group_setting n byte ∷ older
+set_by (order (Plain (Master byte))) older = grand_setting byte ∷ older
 set_by _ older = older
 
 -- the settings of the masters in a history, the newest first
@@ -102,18 +103,18 @@ settings (act ∷ older) = set_by act.call (settings older)
 
 -- ---- refusals and answers
 
--- after End: no command, and no tick after the third (E1.31, Options: three packets with
+-- after End: no instruction, and no tick after the third (E1.31, Options: three packets with
 -- Stream_Terminated end a stream)
 abbrev pub is_after_end : Option ℕ → Call → Bool
 is_after_end None call = false
-is_after_end (Some ticks) (order command) = true
+is_after_end (Some ticks) (order instruction) = true
 is_after_end (Some ticks) tick = nat_le 3 ticks
 
 -- a tick less than 23 ms after the last one (E1.31, Transmission Rate: no faster than DMX512-A,
 -- whose full packet takes 22.7 ms)
 abbrev pub is_soon : Option ℕ → ℕ → Call → Bool
 is_soon None moment call = false
-is_soon (Some last) moment (order command) = false
+is_soon (Some last) moment (order instruction) = false
 is_soon (Some last) moment tick = nat_lt moment (last + 23)
 
 -- what stands against the moment of a call, refusal by refusal
@@ -129,21 +130,22 @@ abbrev pub time_refusal : ℕ → ℕ → Bool → Bool → Option Refused
 time_refusal last moment over soon =
     find (is_untimely last moment over soon) (Backwards ∷ MomentTooLarge ∷ Ended ∷ TooSoon ∷ [])
 
--- what a command asks for and the show does not have, refusal by refusal: a cue to go to, a
+-- what a call asks for and the show does not have, refusal by refusal: a cue to go to, a
 -- submaster or a group
-abbrev pub command_lacks : Tables → Option ℕ → Call → Refused → Bool
-command_lacks show current (order Go) AtEnd = is_none (go_target show.cues current)
-command_lacks show current (order Back) AtStart = is_none (back_target show.cues current)
-command_lacks show current (order (Goto n)) NoCue = is_none (goto_target show.cues n)
-command_lacks show current (order (GotoIn n time)) NoCue = is_none (goto_target show.cues n)
-command_lacks show current (order (Sub n byte)) NoSub = not (map.contains_key show.subs n)
-command_lacks show current (order (Group n byte)) NoGroup = not (map.contains_key show.groups n)
-command_lacks show current call _ = false
+abbrev pub call_lacks : Tables → Option ℕ → Call → Refused → Bool
+call_lacks show current (order (Plain Go)) AtEnd = is_none (go_target show.cues current)
+call_lacks show current (order (Plain Back)) AtStart = is_none (back_target show.cues current)
+call_lacks show current (order (Plain (Goto n))) NoCue = is_none (goto_target show.cues n)
+call_lacks show current (order (GotoIn n time)) NoCue = is_none (goto_target show.cues n)
+call_lacks show current (order (Plain (Sub n byte))) NoSub = not (map.contains_key show.subs n)
+call_lacks show current (order (Plain (Group n byte))) NoGroup =
+    not (map.contains_key show.groups n)
+call_lacks show current call _ = false
 
 -- the first of them that applies, in their order
 abbrev pub lack_refusal : Tables → Option ℕ → Call → Option Refused
 lack_refusal show current call =
-    find (command_lacks show current call) (AtEnd ∷ AtStart ∷ NoCue ∷ NoSub ∷ NoGroup ∷ [])
+    find (call_lacks show current call) (AtEnd ∷ AtStart ∷ NoCue ∷ NoSub ∷ NoGroup ∷ [])
 
 -- why a call is refused after a history: the lowest refusal that applies, if any does. The current
 -- cue is that after the moves due by the call's moment

@@ -9,16 +9,17 @@ use Rattle.master_core.specs.Settings as masters
 use Rattle.master_core.specs.Merged.{merged_after}
 use Rattle.master_core.specs.Settings.{grand_after}
 use Rattle.patch_core.specs.Frame.{listed_level, AreDrawn}
-use Rattle.desk_core.specs.declared.command.Command.{Command}
 use Rattle.desk_core.specs.declared.command.Command.TheVariants.{Sub, Group}
+use Rattle.desk_core.specs.declared.instruction.Instruction.{Instruction}
+use Rattle.desk_core.specs.declared.instruction.Instruction.TheVariants.{Plain}
 use Rattle.desk_core.specs.DeskState.{DeskState}
 use Rattle.desk_core.specs.Played.{Act, last_act_moment, last_tick, ticks_since_end, moves, settings}
 use Rattle.desk_core.specs.Meaning.{channel_level, latest_frame}
 
--- a command sets no submaster and no group, so that their levels stay
-abbrev pub keeps_floors : Command → Bool
-keeps_floors (Sub n byte) = false
-keeps_floors (Group n byte) = false
+-- an instruction sets no submaster and no group, so that their levels stay
+abbrev pub keeps_floors : Instruction → Bool
+keeps_floors (Plain (Sub n byte)) = false
+keeps_floors (Plain (Group n byte)) = false
 keeps_floors _ = true
 
 -- a desk stands for a history of a show with a base: each part that it keeps is what the history

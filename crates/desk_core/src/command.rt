@@ -7,9 +7,6 @@ pub enum Command {
     Back,
     /// To this cue, in thousandths.
     Goto(u32),
-    /// To this cue, in thousandths, over this time in milliseconds: up and down and without delay,
-    /// in place of the cue's times.
-    GotoIn { cue: u32, time: u32 },
     /// The master of this submaster to this byte.
     Sub(u16, u8),
     /// The master of this group to this byte.

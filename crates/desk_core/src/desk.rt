@@ -20,11 +20,13 @@ ghost use Rattle.desk_core.specs.DeskState.{DeskState};
 ghost use Rattle.desk_core.specs.Inside.{IsDesk, are_current, are_kept};
 ghost use Rattle.desk_core.specs.Meaning.{latest_frame, universe_numbers};
 ghost use Rattle.desk_core.specs.Stands.{Leads, OfEach, StandsFor};
+ghost use Rattle.desk_core.specs.declared.instruction.Instruction.TheVariants.{Plain, GotoIn};
 ghost use Rattle.desk_core.specs.Ticks.{IsKeptBut};
 
 use crate::answer::{Refused, Ticked};
 use crate::command::Command;
 use crate::frames::{Merged, darken, draw_merged, redraw_merged};
+use crate::instruction::Instruction;
 use crate::kept::{FloorState, FrameState};
 use arrayvec::ArrayVec;
 use fade_core::Fader;
@@ -155,9 +157,41 @@ impl<F: Fader> Desk<F> {
     /// and `NoGroup` that applies; then nothing changed.
     pub fn command(&mut self, moment: u64, command: Command) -> Result<(), Refused>
         ensures answer { OfEach F.stands_for self.old (λ show base history.
-            result ≡ outcome (refusal show history (order_at moment command)) tt) }
+            result ≡ outcome (refusal show history (order_at moment (Plain command))) tt) }
         ensures stands { OnOk result
-            (Leads F.stands_for (order_at moment command) self.old self.new) }
+            (Leads F.stands_for (order_at moment (Plain command)) self.old self.new) }
+        ensures unchanged { OnErr result (self.new ≡ self.old) }
+    {
+        self.order(moment, Instruction::Plain(command))
+    }
+
+    /// Moves to a cue, in thousandths, over this time in milliseconds, up and down and without
+    /// delay, in place of the cue's times.
+    ///
+    /// # Errors
+    ///
+    /// The first of `Backwards`, `MomentTooLarge`, `Ended` and `NoCue` that applies; then nothing
+    /// changed.
+    pub fn goto_in(&mut self, moment: u64, cue: u32, time: u32) -> Result<(), Refused>
+        ensures answer { OfEach F.stands_for self.old (λ show base history.
+            result ≡ outcome (refusal show history (order_at moment (GotoIn cue time))) tt) }
+        ensures stands { OnOk result
+            (Leads F.stands_for (order_at moment (GotoIn cue time)) self.old self.new) }
+        ensures unchanged { OnErr result (self.new ≡ self.old) }
+    {
+        self.order(moment, Instruction::GotoIn { cue, time })
+    }
+
+    /// Carries out an instruction, as `command` or `goto_in` does.
+    ///
+    /// # Errors
+    ///
+    /// As of that call; then nothing changed.
+    pub fn order(&mut self, moment: u64, instruction: Instruction) -> Result<(), Refused>
+        ensures answer { OfEach F.stands_for self.old (λ show base history.
+            result ≡ outcome (refusal show history (order_at moment instruction)) tt) }
+        ensures stands { OnOk result
+            (Leads F.stands_for (order_at moment instruction) self.old self.new) }
         ensures unchanged { OnErr result (self.new ≡ self.old) }
     {
         if let Some(refused) = time_refusal(self.last_moment, moment, self.ended.is_some(), false) {
@@ -168,11 +202,11 @@ impl<F: Fader> Desk<F> {
             &mut self.playback,
             &mut self.masters,
             moment,
-            command,
+            instruction,
         )?;
         self.frame_state = FrameState::Stale;
-        self.floor_state = self.floor_state.state_after(command);
-        self.ended = ending_begun(command);
+        self.floor_state = self.floor_state.state_after(instruction);
+        self.ended = ending_begun(instruction);
         self.last_moment = moment;
         Ok(())
     }
@@ -450,23 +484,23 @@ fn is_soon(last_tick: Option<u64>, moment: u64) -> bool
     last_tick.is_some_and(|last| moment.saturating_sub(last) < SHORTEST_GAP)
 }
 
-// The ticks since End once the command is done, where there was no End before.
-fn ending_begun(command: Command) -> Option<u8>
-    ensures { result ≡ ended_by (order command) None }
+// The ticks since End once the instruction is done, where there was no End before.
+fn ending_begun(instruction: Instruction) -> Option<u8>
+    ensures { result ≡ ended_by (order instruction) None }
 {
-    match command {
-        Command::End => Some(0),
+    match instruction {
+        Instruction::Plain(Command::End) => Some(0),
         _ => None,
     }
 }
 
-// What a command does to the playback and the masters.
+// What an instruction does to the playback and the masters.
 fn carry_out<F: Fader>(
     show: &Show,
     playback: &mut Playback<F>,
     masters: &mut Masters,
     moment: u64,
-    command: Command,
+    instruction: Instruction,
 ) -> Result<(), Refused>
     requires not_before { F.latest playback.old.fader ≤ moment }
     requires below { moment < 2 ^ 48 }
@@ -474,46 +508,46 @@ fn carry_out<F: Fader>(
         → playback_stands.StandsFor F.stands_for show.now playback.old (moves show.now history)
         false
         → let current = current_after (with_due show.now moment (moves show.now history)) in
-        result ≡ outcome (lack_refusal show.now current (order command)) tt }
+        result ≡ outcome (lack_refusal show.now current (order instruction)) tt }
     ensures playback { OnOk result ((history : List Act) → ticks_since_end history ≡ None
         → playback_stands.StandsFor F.stands_for show.now playback.old (moves show.now history)
         false
-        → let after : List Act = order_at moment command ∷ history in
+        → let after : List Act = order_at moment instruction ∷ history in
         playback_stands.StandsFor F.stands_for show.now playback.new
         (moves show.now after) (is_some (ticks_since_end after))) }
     ensures masters { OnOk result ((history : List Act)
         → masters_stand.StandsFor masters.old (settings history)
-        → masters_stand.StandsFor masters.new (settings (order_at moment command ∷ history))) }
+        → masters_stand.StandsFor masters.new (settings (order_at moment instruction ∷ history))) }
     ensures not_ahead { F.latest playback.new.fader ≤ moment }
     ensures playback_unchanged { OnErr result (playback.new ≡ playback.old) }
     ensures masters_unchanged { OnErr result (masters.new ≡ masters.old) }
 {
-    match command {
-        Command::Go => {
+    match instruction {
+        Instruction::Plain(Command::Go) => {
             playback.go(show, moment)?;
         }
-        Command::Back => {
+        Instruction::Plain(Command::Back) => {
             playback.back(show, moment)?;
         }
-        Command::Goto(n) => {
+        Instruction::Plain(Command::Goto(n)) => {
             playback.goto(show, n, moment)?;
         }
-        Command::GotoIn { cue, time } => {
+        Instruction::GotoIn { cue, time } => {
             playback.goto_in(show, cue, time, moment)?;
         }
-        Command::Sub(n, byte) => {
+        Instruction::Plain(Command::Sub(n, byte)) => {
             masters.set_sub(show, n, byte)?;
             playback.advance(show, moment);
         }
-        Command::Group(n, byte) => {
+        Instruction::Plain(Command::Group(n, byte)) => {
             masters.set_group(show, n, byte)?;
             playback.advance(show, moment);
         }
-        Command::Master(byte) => {
+        Instruction::Plain(Command::Master(byte)) => {
             masters.set_grand(byte);
             playback.advance(show, moment);
         }
-        Command::End => playback.stop(show, moment),
+        Instruction::Plain(Command::End) => playback.stop(show, moment),
     }
     Ok(())
 }

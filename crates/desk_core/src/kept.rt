@@ -4,6 +4,7 @@ ghost use Rattle.desk_core.specs.Inside.{are_current, are_kept};
 ghost use Rattle.desk_core.specs.Stands.{keeps_floors};
 
 use crate::command::Command;
+use crate::instruction::Instruction;
 
 /// What is known of the floors that a desk keeps.
 #[derive(Clone, Copy, Debug, PartialEq, Eq)]
@@ -39,12 +40,12 @@ impl FloorState {
         }
     }
 
-    /// The state behind a command.
-    pub fn state_after(self, command: Command) -> FloorState
-        ensures { result ≡ if keeps_floors command then self else FloorState.Stale }
+    /// The state behind an instruction.
+    pub fn state_after(self, instruction: Instruction) -> FloorState
+        ensures { result ≡ if keeps_floors instruction then self else FloorState.Stale }
     {
-        match command {
-            Command::Sub(_, _) | Command::Group(_, _) => FloorState::Stale,
+        match instruction {
+            Instruction::Plain(Command::Sub(_, _) | Command::Group(_, _)) => FloorState::Stale,
             _ => self,
         }
     }

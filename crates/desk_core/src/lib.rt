@@ -1,9 +1,8 @@
 //! The desk: the commands and ticks of a console, each refusal, and the frames at the latest tick.
 //!
-//! A [`Desk`] is opened for a show, whose copy it keeps. A command or tick is refused by the lowest
-//! reason that applies and then changes nothing; [`Desk::slots`] are what the show means at the
-//! latest tick under the commands before it. Ticks are at least 23 ms apart, and moments are
-//! milliseconds.
+//! A [`Desk`] is opened for a show, whose copy it keeps. A call is refused by the lowest reason that
+//! applies and then changes nothing; [`Desk::slots`] are what the show means at the latest tick
+//! under the instructions before it. Ticks are at least 23 ms apart, and moments are milliseconds.
 //!
 //! ```
 //! let mut desk = Desk::<StepFader>::open(rt.alloc(), &show, 1)?;
@@ -18,8 +17,10 @@ mod answer;
 mod command;
 mod desk;
 mod frames;
+mod instruction;
 mod kept;
 
 pub use answer::{Refused, Ticked};
 pub use command::Command;
 pub use desk::{Desk, ENDING_TICKS, MOMENTS, SHORTEST_GAP};
+pub use instruction::Instruction;

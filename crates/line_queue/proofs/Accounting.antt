@@ -11,7 +11,7 @@ use Rattle.line_queue.specs.Entries.{text_in, queue_text}
 use Rattle.line_queue.specs.Entries.QueueEntry.{Gap, Whole}
 use Rattle.line_queue.specs.Notices.{notice_text}
 use Rattle.line_queue.specs.Pipes.{PipeTape, lasting_failure}
-use Rattle.line_queue.specs.Stands.{Accounts, StandsFor}
+use Rattle.line_queue.specs.Stands.{Accounts, Keeps, StandsFor}
 use Rattle.line_queue.specs.declared.notice.Notice.{Notice}
 use Rattle.line_queue.specs.declared.queue.LineQueue.{LineQueue}
 
@@ -251,3 +251,64 @@ module _ {P : Type 0} (old new : LineQueue P) (tape : PipeTape) (given : List (L
 pub take-front : (count n : ℕ) (xs : List ℕ) → count ≤ length (take n xs)
     → take count (take n xs) ≡ take count xs
 take-front count n xs within = take-take count n xs (omega (arith, length-take n xs))
+
+-- what a queue keeps it keeps on, as long as no write failed before it hands on more
+pub keeps_on : {P : Type 0} (bytes : List ℕ) (old mid new : LineQueue P)
+    (before between after : PipeTape) → mid.failure ≡ None → Keeps bytes old before mid between
+    → Keeps [] mid between new after → Keeps bytes old before new after
+keeps_on bytes old mid new before between after alive one two = record {
+  left = two.left;
+  whole = two.whole
+      ∙ ap (λ xs. between.taken ++ xs) (append-nil mid.waiting.items ∙ (one.waits alive).0)
+      ∙ one.whole;
+  waits = two.waits;
+}
+
+-- the same where its pipe was asked in between, and took nothing then
+pub keeps_past : {P : Type 0} {asked new : LineQueue P} {asked_tape after : PipeTape}
+    → Keeps [] asked asked_tape new after → (old mid : LineQueue P) (before between : PipeTape)
+    → asked.waiting.items ≡ mid.waiting.items → asked_tape.taken ≡ between.taken
+    → mid.failure ≡ None → Keeps [] old before mid between → Keeps [] old before new after
+keeps_past {P} {asked} two old mid before between waiting taken alive one = record {
+  left = two.left;
+  whole = two.whole ∙ ap (λ xs. xs ++ (asked.waiting.items ++ [])) taken
+      ∙ ap (λ xs. between.taken ++ xs)
+      (append-nil asked.waiting.items ∙ waiting ∙ (one.waits alive).0)
+      ∙ one.whole;
+  waits = two.waits;
+}
+
+-- a queue keeps what waits, where only its pipe did something and took nothing
+pub keeps_all : {P : Type 0} (old new : LineQueue P) (before after : PipeTape)
+    → new.waiting.items ≡ old.waiting.items → new.dropped ≡ 0 → after.taken ≡ before.taken
+    → Keeps [] old before new after
+keeps_all old new before after waiting none taken = record {
+  left = old.waiting.items;
+  whole = ap (λ xs. xs ++ old.waiting.items) taken
+      ∙ ap (λ xs. before.taken ++ xs) (sym (append-nil old.waiting.items));
+  waits = λ _. (waiting, none);
+}
+
+-- nor does a failure lose what the pipe took
+pub keeps_failed : {P : Type 0} (old new : LineQueue P) (before after : PipeTape) (kind : ErrorKind)
+    → new.failure ≡ Some kind → after.taken ≡ before.taken → Keeps [] old before new after
+keeps_failed old new before after kind failed taken = record {
+  left = old.waiting.items;
+  whole = ap (λ xs. xs ++ old.waiting.items) taken
+      ∙ ap (λ xs. before.taken ++ xs) (sym (append-nil old.waiting.items));
+  waits = λ alive. absurd (let is = sym failed ∙ alive in cc);
+}
+
+-- a pipe took the first bytes
+pub keeps_taken : {P : Type 0} (old new : LineQueue P) (before after : PipeTape) (count : ℕ)
+    → after.taken ≡ before.taken ++ take count old.waiting.items
+    → new.waiting.items ≡ drop count old.waiting.items → new.dropped ≡ 0
+    → Keeps [] old before new after
+keeps_taken old new before after count taken waiting none =
+    let xs = old.waiting.items in record {
+      left = drop count xs;
+      whole = ap (λ ys. ys ++ drop count xs) taken
+          ∙ append_assoc before.taken (take count xs) (drop count xs)
+          ∙ ap (λ ys. before.taken ++ ys) (take-append-drop count xs ∙ sym (append-nil xs));
+      waits = λ _. (waiting, none);
+    }

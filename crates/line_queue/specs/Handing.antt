@@ -1,7 +1,8 @@
 -- How a queue hands on what waits, and how much it asks of its pipe for that.
 use Rattle.std.specs.Prelude.{◌≡◌, ◌+◌, ◌-◌, ◌*◌, ◌≤◌, ◌⊎◌, ℕ, List, [], ◌∷◌, true}
 use Rattle.line_queue.specs.Pipes.{PipeTape}
-use Rattle.line_queue.specs.Stands.{TakesMore, dropped_in, notice_in, waiting_in}
+use Rattle.line_queue.specs.Stands.{HasRoom, Keeps, TakesMore, bytes_of, dropped_in, notice_in}
+use Rattle.line_queue.specs.Stands.{waiting_in}
 use Rattle.line_queue.specs.declared.queue.LineQueue.{LineQueue}
 
 -- at most so many writes, and a wait of so many milliseconds at most before each and once more
@@ -21,13 +22,16 @@ abbrev pub IsHandedOn : {P : Type 0} → ℕ → LineQueue P → PipeTape → Pi
 IsHandedOn parts queue old new =
     (waiting_in queue ≡ []) ⊎ ((new.is_full ≡ true) ⊎ (old.writes + parts ≤ new.writes))
 
--- a queue stands for these lines too now, and asked its pipe at most so much
+-- a queue stands for these lines too now, and asked its pipe at most so much. Where there was room
+-- for them, they are kept
 pub record Takes {P : Type 0} (tells : P → Type 0) (tape : P → PipeTape)
     (lines : List (List ℕ)) (parts milliseconds : ℕ) (old new : LineQueue P) : Type 0 where
   pub told : tells new.pipe → tells old.pipe
   pub notice : notice_in new ≡ notice_in old
   pub stands : tells new.pipe → TakesMore lines old (tape old.pipe) new (tape new.pipe)
   pub asks : tells new.pipe → AsksAtMost parts milliseconds (tape old.pipe) (tape new.pipe)
+  pub kept : tells new.pipe → HasRoom old (bytes_of lines)
+      → Keeps (bytes_of lines) old (tape old.pipe) new (tape new.pipe)
 
 -- it handed on what waits, as far as that could be: no line was dropped, and where nothing waits
 -- nothing is done

@@ -3,16 +3,6 @@ pub mod Pipes
 pub mod Entries
 pub mod Stands
 pub mod Handing
-pub mod Kept
 pub mod Watches
 pub mod Owed
 pub mod LineOutputs
-pub mod Ways
-pub mod OutputDeeds
-pub mod Waits
-pub mod Screens
-pub mod Recording
-pub mod RecordLaws
-pub mod KeptDeeds
-pub mod Readiness
-pub mod WriteHistories

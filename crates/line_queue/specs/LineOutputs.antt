@@ -3,11 +3,7 @@ use Rattle.std.specs.Prelude.{◌≡◌, ℕ, Bool, false, Option, Some, None}
 use Rattle.line_queue.specs.Owed.{piped_bytes}
 use Rattle.line_queue.specs.Stands.{bytes_taken, failure_in, is_late}
 use Rattle.line_queue.specs.Watches.{look_at}
-use Rattle.line_queue.specs.declared.owed.GivenBytes.{GivenBytes}
-use Rattle.line_queue.specs.declared.owed.WrittenFile.{WrittenFile}
-use Rattle.line_queue.specs.declared.owed.WrittenFiles.{WrittenFiles}
 use Rattle.line_queue.specs.declared.queue.LineQueue.{LineQueue}
-use Rattle.line_queue.specs.declared.queued.QueuedOutputs.{QueuedOutputs}
 use Rattle.line_queue.specs.declared.watch.OutputLook.{OutputLook}
 
 -- a closed output stays closed, and an open one open: its queue changes so
@@ -25,24 +21,7 @@ abbrev pub is_output_late : {P : Type 0} → Option (LineQueue P) → Bool
 is_output_late None = false
 is_output_late (Some queue) = is_late queue
 
--- a look at its file may answer this: a closed one has no file
-abbrev pub ShowsFile : {P : Type 0} → (P → Option WrittenFile → Type 0) → Option (LineQueue P)
-    → Option WrittenFile → Type 0
-ShowsFile shows None file = file ≡ None
-ShowsFile shows (Some queue) file = shows queue.pipe file
-
 -- how many bytes a writer of its file was given
 abbrev pub piped_in : {P : Type 0} → Option (LineQueue P) → ℕ
 piped_in None = 0
 piped_in (Some queue) = piped_bytes (failure_in queue) (bytes_taken queue)
-
--- how many bytes the writers of a night's outputs were given
-abbrev pub given_in : {R M : Type 0} → QueuedOutputs R M → GivenBytes
-given_in outputs = record {
-  output = piped_in outputs.replies.queue;
-  error = piped_in outputs.messages.queue;
-}
-
--- their files before the night
-abbrev pub files_before : {R M : Type 0} → QueuedOutputs R M → WrittenFiles
-files_before outputs = outputs.before

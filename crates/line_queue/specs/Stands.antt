@@ -1,6 +1,6 @@
 -- What a queue keeps, against the lines that it was given.
 use Rattle.std.specs.Prelude.{◌≡◌, ◌+◌, ◌≤◌, ℕ, List, [], ◌++◌, length, Bool, Option, None}
-use Rattle.std.specs.Prelude.{◌||◌, not, nat_lt, nat_eq}
+use Rattle.std.specs.Prelude.{◌||◌, ◌∷◌, not, nat_lt, nat_eq}
 use Rattle.std.specs.declared.io.ErrorKind.{ErrorKind}
 use Rattle.line_queue.specs.Entries.{QueueEntry, capped_count, gaps_of, queue_lines, queue_text}
 use Rattle.line_queue.specs.Pipes.{PipeTape, lasting_failure}
@@ -67,6 +67,21 @@ pub record HasRoom {P : Type 0} (queue : LineQueue P) (line : List ℕ) : Type 0
   pub no_failure : failure_in queue ≡ None
   pub none_dropped : dropped_in queue ≡ 0
   pub fits : length (waiting_in queue) + length line ≤ 65536
+
+-- the bytes of lines
+abbrev pub bytes_of : List (List ℕ) → List ℕ
+bytes_of [] = []
+bytes_of (line ∷ []) = line
+bytes_of (line ∷ lines) = line ++ bytes_of lines
+
+-- A queue keeps these bytes, put behind what waited: what the pipe took since, and behind it what
+-- is left, is what waited and these bytes. As long as no write failed, what is left waits, and no
+-- line was dropped
+pub record Keeps {P : Type 0} (bytes : List ℕ) (old : LineQueue P) (before : PipeTape)
+    (new : LineQueue P) (after : PipeTape) : Type 0 where
+  pub left : List ℕ
+  pub whole : after.taken ++ left ≡ before.taken ++ (waiting_in old ++ bytes)
+  pub waits : failure_in new ≡ None → (waiting_in new ≡ left) × (dropped_in new ≡ 0)
 
 -- whether bytes wait, or lines were dropped and it is not told yet
 abbrev pub is_late : {P : Type 0} → LineQueue P → Bool

@@ -1,6 +1,5 @@
 //! What holds of every night. A law does nothing: its contract is the law.
 
-ghost use Rattle.line_queue.specs.RecordLaws.{RecordLaw};
 ghost use Rattle.line_queue.specs.Watches.{NoticesLaw};
 
 /// The notices of an output over a night: late and whole again, or late and with lines missing, in
@@ -9,12 +8,4 @@ ghost use Rattle.line_queue.specs.Watches.{NoticesLaw};
 #[tactic(auto, using(crate::proofs::Watching::notices))]
 pub fn notices_law()
     ensures { NoticesLaw }
-{}
-
-/// A record over any number of lines that are kept and copied: each is put into it, in their order,
-/// as long as it does not fail; its first failure is told, and ends all that is done with it; and
-/// nothing is told but the notices of how it was.
-#[tactic(auto, using(crate::proofs::Recorded::recorded))]
-pub fn record_law()
-    ensures { RecordLaw }
 {}

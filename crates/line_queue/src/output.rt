@@ -1,14 +1,8 @@
-ghost use Rattle.std.specs.Prelude.{◌≡◌, ◌∷◌, [], Option, None, Some};
-ghost use Rattle.line_queue.specs.Entries.{capped_count};
+ghost use Rattle.std.specs.Prelude.{◌≡◌, ◌∷◌, [], None, Some};
 ghost use Rattle.line_queue.specs.Handing.{HandsOn, Puts, Takes};
-ghost use Rattle.line_queue.specs.LineOutputs.{Changes, ShowsFile};
-ghost use Rattle.line_queue.specs.LineOutputs.{is_output_late, look_in, piped_in};
-ghost use Rattle.line_queue.specs.Owed.{owed_bytes};
-ghost use Rattle.line_queue.specs.declared.owed.WrittenFile.{WrittenFile as FileOf};
+ghost use Rattle.line_queue.specs.LineOutputs.{Changes, is_output_late, look_in, piped_in};
 
-use crate::owed::owed_bytes;
-use crate::queued::FilePipe;
-use crate::{LineQueue, OutputLook, Pipe, WrittenFile};
+use crate::{LineQueue, OutputLook, Pipe};
 
 /// An output for lines that may be closed. An open one is a [`LineQueue`]; of lines that are put
 /// into a closed one nothing becomes.
@@ -69,26 +63,6 @@ impl<P: Pipe> LineOutput<P> {
         if let Some(queue) = &mut self.queue {
             queue.finish();
         }
-    }
-}
-
-impl<P: FilePipe> LineOutput<P> {
-    /// Its file, if it is open and another process writes that.
-    pub fn written_file(&self, system: &P::System) -> Option<WrittenFile>
-        ensures { ShowsFile P.shows self.now.queue result }
-    {
-        let Some(queue) = &self.queue else {
-            return None;
-        };
-        queue.pipe.written_file(system)
-    }
-
-    /// How many bytes its writer owes, up to 2^64 - 1, of a file that had so many before.
-    pub fn owed_bytes(&self, before: u64, system: &P::System) -> u64
-        ensures { (now : Option FileOf) × ShowsFile P.shows self.now.queue now
-            × (result ≡ capped_count (owed_bytes before (piped_in self.now.queue) now)) }
-    {
-        owed_bytes(before, self.piped_bytes(), self.written_file(system))
     }
 }
 

@@ -34,14 +34,6 @@ pub struct GivenBytes {
 /// A line about bytes that are owed: 20 digits and 45 bytes of words have room.
 pub type OwedLine = ArrayString<72>;
 
-/// How many bytes a writer owes, up to 2^64 - 1: of a file that had so many before, of the bytes
-/// that it was given since.
-pub fn owed_bytes(before: u64, given: u64, now: Option<WrittenFile>) -> u64
-    ensures { result ≡ capped_count (owed_bytes before given now) }
-{
-    capped_count(file_owes(before, given.into(), now))
-}
-
 /// How many bytes the writers of a night's outputs owe, up to 2^64 - 1, by their files before and
 /// now, and the bytes that they were given since.
 pub fn owed_by_outputs(before: WrittenFiles, given: GivenBytes, now: WrittenFiles) -> u64

@@ -5,8 +5,7 @@ use std::io::ErrorKind;
 
 /// Where the bytes of a queue go: a pipe, a terminal, a socket or a file, which takes some of them.
 ///
-/// A pipe *tells* where contracts can see what it did, under the rules of an
-/// [`Output`](devices::Output).
+/// A pipe *tells* where contracts can see what it did. One that tells told before each call, too.
 pub trait Pipe {
     /// Contracts can see what the pipe did.
     ghost tells: { Self → Type 0 };

@@ -71,7 +71,7 @@ impl<P: Pipe> LineQueue<P> {
     ghost use Rattle.std.specs.Prelude.{◌<◌, ◌+◌, ◌++◌, ◌∷◌, ◌&&◌, [], length, nat_eq, nat_le};
     ghost use Rattle.std.specs.Prelude.{IsNone, None};
     ghost use Rattle.line_queue.specs.Handing.{HandsOn, Puts, Takes};
-    ghost use Rattle.line_queue.specs.Stands.{HasRoom, TakesMore, dropped_in, failure_in};
+    ghost use Rattle.line_queue.specs.Stands.{HasRoom, Keeps, TakesMore, dropped_in, failure_in};
     ghost use Rattle.line_queue.specs.Stands.{notice_in, waiting_in};
 
     /// Takes a line and hands it on, or drops it.
@@ -174,6 +174,8 @@ impl<P: Pipe> LineQueue<P> {
         ensures no_wait { P.tells self.new.pipe
             → (P.tape self.new.pipe).wait ≡ (P.tape self.old.pipe).wait }
         ensures no_drop { dropped_in self.new ≤ dropped_in self.old }
+        ensures kept { P.tells self.new.pipe → HasRoom self.old []
+            → Keeps [] self.old (P.tape self.old.pipe) self.new (P.tape self.new.pipe) }
     {
         let count = self.waiting.len().min(PART);
         match self.pipe.write(&self.waiting.as_slice()[..count]) {
@@ -217,6 +219,8 @@ impl<P> LineQueue<P> {
         ensures pipe { self.new.pipe ≡ self.old.pipe }
         ensures notice { notice_in self.new ≡ notice_in self.old }
         ensures no_drop { dropped_in self.new ≤ dropped_in self.old }
+        ensures kept { dropped_in self.old ≡ 0
+            → (waiting_in self.new ≡ drop count (waiting_in self.old)) × (dropped_in self.new ≡ 0) }
     {
         self.taken = self.taken.saturating_add(count as u64);
         remove_front(&mut self.waiting, count);
@@ -232,6 +236,7 @@ impl<P> LineQueue<P> {
         ensures notice { notice_in self.new ≡ notice_in self.old }
         ensures no_drop { dropped_in self.new ≤ dropped_in self.old }
         ensures still { 0 < dropped_in self.new → self.new ≡ self.old }
+        ensures none { dropped_in self.old ≡ 0 → self.new ≡ self.old }
     {
         if self.dropped == 0 || !self.waiting.is_empty() {
             return;
@@ -250,6 +255,7 @@ impl<P> LineQueue<P> {
         ensures pipe { self.new.pipe ≡ self.old.pipe }
         ensures notice { notice_in self.new ≡ notice_in self.old }
         ensures dropped { dropped_in self.new ≡ dropped_in self.old }
+        ensures failed { failure_in self.new ≡ Some kind }
     {
         self.failure = Some(kind);
         self.waiting.clear();

@@ -1,5 +1,5 @@
--- When a network is looked at, and what is told of it then.
-use Rattle.std.specs.Prelude.{ℕ, ◌-◌, Bool, true, nat_le, List, [], ◌∷◌, ◌++◌, map, flat_map}
+-- What is told of a network that was looked at.
+use Rattle.std.specs.Prelude.{ℕ, Bool, List, [], ◌∷◌, ◌++◌, map, flat_map}
 use Rattle.std.specs.Prelude.{slice_index_or, Option, Some, None, if◌then◌else◌}
 use Rattle.std.specs.List.{enumerate_from}
 use Rattle.std.specs.Option.{is_some}
@@ -20,11 +20,6 @@ use Rattle.link_notices.specs.declared.watch.SourceWatch.{SourceWatch}
 use Rattle.link_notices.specs.Looks.{has_link, path_look}
 use Rattle.link_notices.specs.Told.{again_of_path, again_of_source}
 use Rattle.link_notices.specs.Told.{news_of_path, news_of_source, told_of_path}
-
--- a look is due: none was made so far, or half a second has passed since the last
-abbrev pub is_look_due : Option ℕ → ℕ → Bool
-is_look_due None now = true
-is_look_due (Some last) now = nat_le 500 (now - last)
 
 -- what was told of the address at a place, and of the way there: at first nothing wrong
 abbrev pub source_told : List SourceWatch → ℕ → SourceState

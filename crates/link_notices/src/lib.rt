@@ -9,8 +9,6 @@
 mod laws;
 mod link_watch;
 mod look;
-pub mod memory;
-mod night_network;
 mod notice;
 mod path;
 mod sending;
@@ -18,9 +16,8 @@ mod source;
 mod watch;
 
 pub use laws::{paths_law, sources_law};
-pub use link_watch::LinkWatch;
+pub use link_watch::{DueLook, LinkWatch, look_time};
 pub use look::{HostPath, MOST_SOURCES, NetworkLook};
-pub use night_network::NightNetwork;
 pub use notice::{LinkNotice, LinkNotices, PathNotice, SourceNotice};
 pub use path::{CardAddress, PathState, Trouble, trouble_of};
 pub use sending::Sending;

@@ -1,35 +1,41 @@
-ghost use Rattle.std.specs.Prelude.{◌≡◌, ◌≤◌, ◌<◌, ◌+◌, ◌∷◌, ◌++◌, [], true, false, length, map};
-ghost use Rattle.std.specs.Prelude.{flat_map, ℕ, List, None, Option, Some};
+ghost use Rattle.std.specs.Prelude.{◌≡◌, ◌≤◌, ◌<◌, ◌+◌, ◌++◌, [], length, map, option_map};
+ghost use Rattle.std.specs.Prelude.{flat_map, None, Some};
 ghost use Rattle.std.specs.Duration.{as_nanos};
 ghost use Rattle.std.specs.List.{enumerate_from};
-ghost use Rattle.link_notices.specs.declared.look.NetworkLook.{NetworkLook as LookOf};
 ghost use Rattle.link_notices.specs.Looks.{path_look};
-ghost use Rattle.link_notices.specs.LookTimes.{IsTimedLook, look_time, with_reading};
-ghost use Rattle.link_notices.specs.Watches.{again_notices, is_look_due, look_notices};
+ghost use Rattle.link_notices.specs.LookTimes.{due_time, is_look_due, look_time};
+ghost use Rattle.link_notices.specs.Watches.{again_notices, look_notices};
 ghost use Rattle.link_notices.specs.Watches.{path_again, path_news, path_notice, path_told};
 ghost use Rattle.link_notices.specs.Watches.{path_watches, source_again, source_news};
 ghost use Rattle.link_notices.specs.Watches.{source_notice, source_told, source_watch};
 ghost use Rattle.link_notices.specs.Watches.{start_watch};
 
 use crate::look::{HostPath, MOST_SOURCES, NetworkLook};
-use crate::night_network::NightNetwork;
 use crate::notice::{LinkNotice, LinkNotices, PathNotice, SourceNotice};
 use crate::path::{PathState, Trouble, trouble_of};
 use crate::watch::{PathWatch, SourceWatch};
 use arrayvec::ArrayVec;
-use live_machine::{MachineClock, TURN};
 use std::time::Duration;
 use targets::MOST_TARGETS;
+
+// So many milliseconds pass between two looks.
+const BETWEEN_LOOKS: u64 = 500;
 
 type SourceWatches = ArrayVec<SourceWatch, MOST_SOURCES>;
 
 type PathWatches = ArrayVec<PathWatch, MOST_TARGETS>;
 
+/// Leave to take up a look: one is due.
+#[derive(Clone, Copy, Debug)]
+pub struct DueLook {
+    // When it is made, in milliseconds.
+    time: u64,
+}
+
 /// Watches the network of a night, and answers with what is to be told of it: so that an operator
 /// knows when nodes get nothing.
 #[derive(Drop)]
-pub struct LinkWatch<N> {
-    pub network: N,
+pub struct LinkWatch {
     /// When it was looked at last, in milliseconds.
     pub last: Option<u64>,
     /// What that found.
@@ -40,11 +46,10 @@ pub struct LinkWatch<N> {
     pub paths: PathWatches,
 }
 
-impl<N: NightNetwork> LinkWatch<N> {
+impl LinkWatch {
     /// A watch of a network that was like this at the start of the night. To which hosts there was
     /// no route is told already.
-    pub fn new(network: N, start: NetworkLook) -> Self
-        ensures network { result.network ≡ network }
+    pub fn new(start: NetworkLook) -> Self
         ensures last { result.last ≡ None }
         ensures found { result.found ≡ start }
         ensures sources { result.sources.items ≡ [] }
@@ -52,7 +57,6 @@ impl<N: NightNetwork> LinkWatch<N> {
     {
         let paths = start_watches(&start);
         LinkWatch {
-            network,
             last: None,
             found: start,
             sources: SourceWatches::new(),
@@ -60,53 +64,35 @@ impl<N: NightNetwork> LinkWatch<N> {
         }
     }
 
-    /// Looks at the network, where at this time, in milliseconds, a [`TURN`] has passed since it
-    /// did so last, and answers what is to be told then: of the addresses in their order, and then
-    /// of the ways in theirs.
-    pub fn look(&mut self, now: u64) -> LinkNotices
-        ensures told { N.tells self.new.network → N.tells self.old.network }
-        ensures waits { is_look_due self.old.last now ≡ false
-            → (result.items ≡ []) × (self.new ≡ self.old) }
-        ensures looks { is_look_due self.old.last now ≡ true → N.tells self.new.network
-            → N.looks self.new.network ≡ N.looks self.old.network ++ self.new.found ∷ [] }
-        ensures notices { is_look_due self.old.last now ≡ true
-            → result.items ≡ look_notices self.old.sources.items self.old.paths.items
-            self.new.found }
-        ensures sources { is_look_due self.old.last now ≡ true
-            → self.new.sources.items ≡ map source_watch self.new.found.sources.items }
-        ensures paths { is_look_due self.old.last now ≡ true
-            → self.new.paths.items ≡ path_watches self.old.paths.items self.new.found }
-        ensures last { is_look_due self.old.last now ≡ true → self.new.last ≡ Some now }
+    /// Whether a look at the network is due at this time, in milliseconds: half a second has passed
+    /// since the last one. `None` where it is not.
+    pub fn due_look(&self, now: u64) -> Option<DueLook>
+        ensures { option_map (λ due. due.time) result ≡ due_time self.now.last now }
+    {
+        if !is_look_due(self.last, now) {
+            return None;
+        }
+        Some(DueLook { time: now })
+    }
+
+    /// Takes up what a look that was due found, and answers what is to be told then: of the
+    /// addresses in their order, and then of the ways in theirs.
+    pub fn take_look(&mut self, due: DueLook, found: NetworkLook) -> LinkNotices
+        ensures notices { result.items
+            ≡ look_notices self.old.sources.items self.old.paths.items found }
+        ensures sources { self.new.sources.items ≡ map source_watch found.sources.items }
+        ensures paths { self.new.paths.items ≡ path_watches self.old.paths.items found }
+        ensures found { self.new.found ≡ found }
+        ensures last { self.new.last ≡ Some due.time }
     {
         let mut notices = LinkNotices::new();
-        if !is_look_due(self.last, now) {
-            return notices;
-        }
-        self.last = Some(now);
-        let found = self.network.look();
         let sources = look_at_sources(self.sources.as_slice(), &found, &mut notices);
         let paths = look_at_paths(self.paths.as_slice(), &found, &mut notices);
+        self.last = Some(due.time);
         self.found = found;
         self.sources = sources;
         self.paths = paths;
         notices
-    }
-
-    /// Looks as [`LinkWatch::look`] does, at the time that this clock shows. Where it cannot be
-    /// read, or its milliseconds do not fit, there is no look.
-    pub fn look_by<C: MachineClock>(&mut self, clock: &mut C) -> LinkNotices
-        ensures clock { C.tells clock.new → C.tells clock.old }
-        ensures network { N.tells self.new.network → N.tells self.old.network }
-        ensures looked { (passed : Option ℕ) × (looks : List LookOf)
-            × IsTimedLook (look_time passed) self.old self.new result.items looks
-            × (C.tells clock.new → C.tape clock.new ≡ with_reading (C.tape clock.old) passed)
-            × (N.tells self.new.network
-            → N.looks self.new.network ≡ N.looks self.old.network ++ looks) }
-    {
-        match time_by(clock) {
-            Some(now) => self.look(now),
-            None => LinkNotices::new(),
-        }
     }
 
     /// What is told once more: what is wrong, of the addresses and the ways of the last look.
@@ -121,30 +107,18 @@ impl<N: NightNetwork> LinkWatch<N> {
     }
 }
 
-// The milliseconds that a clock shows.
-fn time_by<C: MachineClock>(clock: &mut C) -> Option<u64>
-    ensures told { C.tells clock.new → C.tells clock.old }
-    ensures time { (passed : Option ℕ) × (result ≡ look_time passed)
-        × (C.tells clock.new → C.tape clock.new ≡ with_reading (C.tape clock.old) passed) }
-{
-    match clock.time_passed() {
-        Ok(passed) => milliseconds_of(passed),
-        Err(_) => None,
-    }
-}
-
-fn milliseconds_of(passed: Duration) -> Option<u64>
-    ensures { result ≡ look_time (Some (as_nanos passed)) }
+/// The time of a look, in milliseconds, by what a clock shows; `None` where that does not fit.
+pub fn look_time(passed: Duration) -> Option<u64>
+    ensures { result ≡ look_time (as_nanos passed) }
 {
     u64::try_from(passed.as_millis()).ok()
 }
 
-// Each look begins a turn.
 fn is_look_due(last: Option<u64>, now: u64) -> bool
     ensures { result ≡ is_look_due last now }
 {
     match last {
-        Some(last) => now.saturating_sub(last) >= TURN,
+        Some(last) => now.saturating_sub(last) >= BETWEEN_LOOKS,
         None => true,
     }
 }

@@ -30,16 +30,6 @@ pub struct NetworkLook {
 }
 
 impl NetworkLook {
-    /// A copy.
-    pub fn copy(&self) -> NetworkLook
-        ensures { result ≡ self.now }
-    {
-        let mut copy = NetworkLook::default();
-        let _ = copy.sources.try_extend_from_slice(self.sources.as_slice());
-        let _ = copy.paths.try_extend_from_slice(self.paths.as_slice());
-        copy
-    }
-
     // Of the way to a host nothing is told while its card has no link.
     pub(crate) fn has_link(&self, path: &HostPath) -> bool
         ensures { result ≡ has_link self.now.sources.items path.now.source }

@@ -1,7 +1,8 @@
 -- What a desk accepts of a night.
 use Rattle.live_input.proofs.Terms.{◌≡◌, ◌≤◌, ◌<◌, ◌^◌, ℕ, ◌+◌, true, false, refl, ap, ◌∙◌, arith}
 use Rattle.live_input.proofs.Terms.{List, ◌∷◌, Option, Some, None, is_none, option_map_or}
-use Rattle.live_input.proofs.Terms.{cond_both, nat_tests, Tables, Setting, Command, End, Master}
+use Rattle.live_input.proofs.Terms.{cond_both, nat_tests, Tables, Setting, Instruction, Plain, End}
+use Rattle.live_input.proofs.Terms.{Master}
 use Rattle.live_input.proofs.Terms.{Act, last_act_moment, last_tick, Stage, On, Dark, Ended, IsDim}
 use Rattle.live_input.proofs.Terms.{accepted_acts, since_end, acts_with, Answer, Happening}
 use Rattle.live_input.proofs.Terms.{answer_to, answers, asked, next_tick, close, dim, is_on}
@@ -43,19 +44,19 @@ tick_accepted show history d n (Ended count) below t since on late =
 
 end_accepted : (show : Tables) (history : List Act) (n : ℕ) → n < 2 ^ 48
     → last_act_moment history ≤ n → desk.ticks_since_end history ≡ None
-    → refusal show history (act n (desk.order End)) ≡ None
+    → refusal show history (act n (desk.order (Plain End))) ≡ None
 end_accepted show history n below moment none = grind (arith, nat_tests, moment, none)
 
 dim_accepted : (show : Tables) (history : List Act) (n : ℕ) → n < 2 ^ 48
     → last_act_moment history ≤ n → desk.ticks_since_end history ≡ None
-    → refusal show history (act n (desk.order (Master 0))) ≡ None
+    → refusal show history (act n (desk.order (Plain (Master 0)))) ≡ None
 dim_accepted show history n below moment none = grind (arith, nat_tests, moment, none)
 
 -- ---- one answer more
 
-order_quiet : (c : Command) (since : Option ℕ) → is_end c ≡ false
+order_quiet : (c : Instruction) (since : Option ℕ) → is_end c ≡ false
     → desk.ended_by (desk.order c) since ≡ since
-order_quiet End since other = cc
+order_quiet (Plain End) since other = cc
 order_quiet c since other = grind arith
 
 tick_ends : (s : Stage) (n : ℕ)
@@ -73,7 +74,7 @@ tick_dims (Ended count) n settings dark = tt
 on_none : (s : Stage) → is_on s ≡ true → since_end s ≡ None
 on_none s on = rw (on_only s on) refl
 
-order_by : (show : Tables) (h : List Happening) (n : ℕ) (line : List ℕ) (c : Command)
+order_by : (show : Tables) (h : List Happening) (n : ℕ) (line : List ℕ) (c : Instruction)
     → is_on (stage (answers h)) ≡ true → is_end c ≡ false → now h ≤ n
     → Agrees (accepted_acts show (answers h)) (answers h) (now h)
     → Agrees (acts_with show (Some (act n (desk.order c))) (accepted_acts show (answers h)))

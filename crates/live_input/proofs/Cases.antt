@@ -1,7 +1,7 @@
 -- The answers that there are, and what holds through a night.
 use Rattle.live_input.proofs.Terms.{◌≡◌, ◌≤◌, ◌<◌, ◌^◌, ℕ, true, false, refl, arith, List, [], ◌∷◌}
 use Rattle.live_input.proofs.Terms.{length, Some, None, ◌&&◌, nat_le, unwrap_or, and_parts}
-use Rattle.live_input.proofs.Terms.{cond_both, le-leb, leb-true, words_of, Command, command_of}
+use Rattle.live_input.proofs.Terms.{cond_both, le-leb, leb-true, words_of, Instruction, instruction_of}
 use Rattle.live_input.proofs.Terms.{Answer, Happening, answer_to, answers, asked, behind_moment}
 use Rattle.live_input.proofs.Terms.{IsOn, before_lines, next_tick, ends_with_input, goes_first}
 use Rattle.live_input.proofs.Terms.{is_light_down, is_on, is_over, unanswered_lines, now}
@@ -15,18 +15,18 @@ use Rattle.live_input.proofs.Asked.{Meets, is_end, request_meets}
 abbrev pub HasTurn : List Answer → ℕ → Type 0
 HasTurn given n = (is_on (stage given) ≡ true) × (goes_first given n ≡ false)
 
--- a line asks for a command, which is no `end`
-abbrev pub Ordinary : List ℕ → Command → Type 0
-Ordinary line command = (is_end command ≡ false)
-    × (words_asked true (words_of (without_keys line)) ≡ Order command)
+-- a line asks for an instruction, which is no `end`
+abbrev pub Ordinary : List ℕ → Instruction → Type 0
+Ordinary line instruction = (is_end instruction ≡ false)
+    × (words_asked true (words_of (without_keys line)) ≡ Order instruction)
 
 -- each answer at a moment after these happenings, and when it comes
 pub data Next (h : List Happening) (n : ℕ) : Answer → Type 0 where
   nothing : is_over (answers h) ≡ true → Next h n over
   takes : (line : List ℕ) (later : List (List ℕ)) → unanswered_lines (answers h) h ≡ line ∷ later
       → HasTurn (answers h) n → length (behind_moment n line) ≤ 200
-      → (command : Command) → command_of (words_of (without_keys line)) ≡ Some command
-      → Ordinary line command → Next h n (order n line)
+      → (instruction : Instruction) → instruction_of (words_of (without_keys line)) ≡ Some instruction
+      → Ordinary line instruction → Next h n (order n line)
   darkens : (line : List ℕ) (later : List (List ℕ)) → unanswered_lines (answers h) h ≡ line ∷ later
       → HasTurn (answers h) n → Next h n (dim n (Some line))
   leaves : (line : List ℕ) (later : List (List ℕ)) → unanswered_lines (answers h) h ≡ line ∷ later

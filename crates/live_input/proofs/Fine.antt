@@ -6,8 +6,8 @@ use Rattle.live_input.proofs.Terms.{fold-append, ◌==◌, is_some, codes, decim
 use Rattle.live_input.proofs.Terms.{list_all, cond_both, not-true, elements, moves}
 use Rattle.live_input.proofs.Terms.{AllPass-from_list_all, length-decimal-le, All-append, All-cons}
 use Rattle.live_input.proofs.Terms.{All-drop, All-head, All-nil, All-push, All-tail, All-take}
-use Rattle.live_input.proofs.Terms.{All-weaker, lines_of, words_of, Command, call_of, command_of}
-use Rattle.live_input.proofs.Terms.{is_malformed, reading_of, PlayTakes, IsSpelled, SpellsCommand}
+use Rattle.live_input.proofs.Terms.{All-weaker, lines_of, words_of, Instruction, call_of, instruction_of}
+use Rattle.live_input.proofs.Terms.{is_malformed, reading_of, PlayTakes, IsSpelled, SpellsInstruction}
 use Rattle.live_input.proofs.Terms.{lines_text, Answer, Happening, answer_to, answers, asked}
 use Rattle.live_input.proofs.Terms.{behind_moment, bytes_come, lines_given, unanswered_lines}
 use Rattle.live_input.proofs.Terms.{TypedLines, nothing_typed, says_nothing, typed_of}
@@ -21,13 +21,13 @@ use Rattle.live_input.proofs.Spelled.{call_is, no_digit, reading_is}
 
 -- ---- what lines spell
 
-pub spells : (n : ℕ) (line : List ℕ) → n < 2 ^ 48 → (spelled : Option Command)
-    → command_of (words_of line) ≡ spelled → is_some spelled ≡ true
-    → SpellsCommand spelled n line × (is_malformed (reading_of (behind_moment n line)) ≡ false)
+pub spells : (n : ℕ) (line : List ℕ) → n < 2 ^ 48 → (spelled : Option Instruction)
+    → instruction_of (words_of line) ≡ spelled → is_some spelled ≡ true
+    → SpellsInstruction spelled n line × (is_malformed (reading_of (behind_moment n line)) ≡ false)
 spells n line below None e some = cc
-spells n line below (Some command) e some =
+spells n line below (Some instruction) e some =
     let is = reading_is n line below
-    ∙ ap (spelling.reading_at (Some n)) (call_is (words_of line) command e) in
+    ∙ ap (spelling.reading_at (Some n)) (call_is (words_of line) instruction e) in
     (is, ap is_malformed is)
 
 spelled_by : (h : List Happening) (n : ℕ) (answer : Answer) → Next h n answer → n < 2 ^ 48

@@ -1,7 +1,7 @@
 -- Lines of a record that are given again.
 use Rattle.live_input.proofs.Terms.{◌≡◌, ℕ, ◌+◌, refl, ap, sym, ◌∙◌, arith, List, [], ◌∷◌, ◌++◌}
 use Rattle.live_input.proofs.Terms.{length, drop, Bool, true, false, Option, Some, None, IfNone}
-use Rattle.live_input.proofs.Terms.{is_some, option_map, append_cancel_right, Command, Go, Back}
+use Rattle.live_input.proofs.Terms.{is_some, option_map, append_cancel_right, Instruction, Plain, Go, Back}
 use Rattle.live_input.proofs.Terms.{Goto, GotoIn, Sub, Group, Master, End, Call, Tick, Reading, At}
 use Rattle.live_input.proofs.Terms.{Blank, Malformed, reading_of, Given, GivenLine, Line, Over}
 use Rattle.live_input.proofs.Terms.{Refused, Until, Answer, Happening, answer_to, answers, asked}
@@ -51,27 +51,27 @@ no_line _ _ not t older = absurd t
 pub same_answers : (moment : ℕ) (call : Call) (line : List ℕ) (happened : List Happening)
     → answers (typed_again moment call line happened) ≡ answers happened
 same_answers moment Tick line happened = refl
-same_answers moment (Order Go) line happened = refl
-same_answers moment (Order Back) line happened = refl
-same_answers moment (Order (Goto n)) line happened = refl
+same_answers moment (Order (Plain Go)) line happened = refl
+same_answers moment (Order (Plain Back)) line happened = refl
+same_answers moment (Order (Plain (Goto n))) line happened = refl
 same_answers moment (Order (GotoIn n time)) line happened = refl
-same_answers moment (Order (Sub n byte)) line happened = refl
-same_answers moment (Order (Group n byte)) line happened = refl
-same_answers moment (Order (Master byte)) line happened = refl
-same_answers moment (Order End) line happened = refl
+same_answers moment (Order (Plain (Sub n byte))) line happened = refl
+same_answers moment (Order (Plain (Group n byte))) line happened = refl
+same_answers moment (Order (Plain (Master byte))) line happened = refl
+same_answers moment (Order (Plain End)) line happened = refl
 
-pub words_typed : (moment : ℕ) (command : Command) (line : List ℕ) (happened : List Happening)
-    → (command ≡ End → ⊥)
-    → typed_again moment (Order command) line happened
+pub words_typed : (moment : ℕ) (instruction : Instruction) (line : List ℕ) (happened : List Happening)
+    → (instruction ≡ Plain End → ⊥)
+    → typed_again moment (Order instruction) line happened
     ≡ came (drop (length (decimal moment) + 1) line) ∷ happened
-words_typed moment Go line happened not = refl
-words_typed moment Back line happened not = refl
-words_typed moment (Goto n) line happened not = refl
+words_typed moment (Plain Go) line happened not = refl
+words_typed moment (Plain Back) line happened not = refl
+words_typed moment (Plain (Goto n)) line happened not = refl
 words_typed moment (GotoIn n time) line happened not = refl
-words_typed moment (Sub n byte) line happened not = refl
-words_typed moment (Group n byte) line happened not = refl
-words_typed moment (Master byte) line happened not = refl
-words_typed moment End line happened not = absurd (not refl)
+words_typed moment (Plain (Sub n byte)) line happened not = refl
+words_typed moment (Plain (Group n byte)) line happened not = refl
+words_typed moment (Plain (Master byte)) line happened not = refl
+words_typed moment (Plain End) line happened not = absurd (not refl)
 
 pub no_call : (reading : Reading) (line : List ℕ) (happened : List Happening)
     → ((moment : ℕ) (call : Call) → reading ≡ At moment call → ⊥)

@@ -3,7 +3,7 @@ use Rattle.live_input.proofs.Terms.{None, ◌≡◌, ◌≤◌, ◌<◌, ◌^◌
 use Rattle.live_input.proofs.Terms.{List, [], ◌∷◌, ◌++◌, length, append_assoc, Option, Some, ◌==◌}
 use Rattle.live_input.proofs.Terms.{nat_le, unwrap_or, All, codes, decimal, cond_both, le-leb}
 use Rattle.live_input.proofs.Terms.{nat_tests, All-head, drop-append-add, drop-append_seam}
-use Rattle.live_input.proofs.Terms.{drop-length, words_of, Command, End, Master, command_of, Text}
+use Rattle.live_input.proofs.Terms.{drop-length, words_of, Instruction, Plain, End, Master, instruction_of, Text}
 use Rattle.live_input.proofs.Terms.{Stage, On, Dark, Ended, Request, Leave, Order, without_keys}
 use Rattle.live_input.proofs.Terms.{RecordsAreRecalled, Answer, Happening, answers, asked}
 use Rattle.live_input.proofs.Terms.{behind_moment, by_itself, bytes_come, came, next_tick}
@@ -86,10 +86,10 @@ lit_still s still = (refl, refl)
 -- ---- a line more
 
 -- a line that asks for something has words
-says_some : (words : List (List ℕ)) (command : Command) → words_asked true words ≡ Order command
+says_some : (words : List (List ℕ)) (instruction : Instruction) → words_asked true words ≡ Order instruction
     → (length words == 0) ≡ false
-says_some [] command some = cc
-says_some (word ∷ words) command some = grind (arith, nat_tests)
+says_some [] instruction some = cc
+says_some (word ∷ words) instruction some = grind (arith, nat_tests)
 
 -- these lines are given again, with these answers, and each line that is typed is answered
 record Replays (lines : List (List ℕ)) (given : List Answer) : Type 0 where
@@ -169,27 +169,27 @@ module _ {lines : List (List ℕ)} {given : List Answer} (n : ℕ) (k : Replays 
       k.holds is
       (rw (request_more given n text request) typed) short gives
 
-  replay_order : (text : List ℕ) (command : Command) → IsTurn given n
+  replay_order : (text : List ℕ) (instruction : Instruction) → IsTurn given n
       → length (behind_moment n text) ≤ 200 → All NotLf text
-      → command_of (words_of text) ≡ Some command → Ordinary text command
+      → instruction_of (words_of text) ≡ Some instruction → Ordinary text instruction
       → without_keys text ≡ text
       → ReplaysBy (behind_moment n text ∷ lines) (order n text ∷ given) n
-  replay_order text command turn fit whole some asks keys =
-      let says = says_some (words_of text) command (rw keys at asks.1) in
-      let typed = words_typed n command (behind_moment n text ++ 10 ∷ []) r
+  replay_order text instruction turn fit whole some asks keys =
+      let says = says_some (words_of text) instruction (rw keys at asks.1) in
+      let typed = words_typed n instruction (behind_moment n text ++ 10 ∷ []) r
       (λ e. let no = rw e at asks.0 in cc)
       ∙ ap (λ words. came words ∷ r)
       (rw (append_assoc, append_assoc)
       (drop-append-add (decimal n) (codes " " ++ (text ++ 10 ∷ [])) 1)) in
-      replay_line text text (Order command) turn fit whole says asks.1 fit
-      (recalled_is (behind_moment n text) r n (call.Order command)
-      (spells n text below (Some command) some refl).0 ∙ ap (λ happened. asked n ∷ happened) typed)
+      replay_line text text (Order instruction) turn fit whole says asks.1 fit
+      (recalled_is (behind_moment n text) r n (call.Order instruction)
+      (spells n text below (Some instruction) some refl).0 ∙ ap (λ happened. asked n ∷ happened) typed)
       (rw keys refl)
 
   replay_dim : IsTurn given n
       → ReplaysBy (behind_moment n (codes "master 0") ∷ lines)
       (order n (codes "master 0") ∷ given) n
-  replay_dim turn = replay_order (codes "master 0") (Master 0) turn
+  replay_dim turn = replay_order (codes "master 0") (Plain (Master 0)) turn
       (word_fits n (codes "master 0") below (omega arith)) (word_whole (codes "master 0") refl)
       refl (refl, refl) refl
 
@@ -198,7 +198,7 @@ module _ {lines : List (List ℕ)} {given : List Answer} (n : ℕ) (k : Replays 
   replay_end turn = replay_line (codes "leave") (codes "end") Leave turn
       (word_fits n (codes "leave") below (omega arith)) (word_whole (codes "leave") refl) refl refl
       (word_fits n (codes "end") below (omega arith))
-      (recalled_is (behind_moment n (codes "end")) r n (call.Order End)
+      (recalled_is (behind_moment n (codes "end")) r n (call.Order (Plain End))
       (reading_is n (codes "end") below)) refl
 
 -- ---- each line of a night

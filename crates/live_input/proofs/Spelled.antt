@@ -9,8 +9,8 @@ use Rattle.live_input.proofs.Terms.{cond_both, nat_tests, decimal_nonempty, digi
 use Rattle.live_input.proofs.Terms.{digits_value-decimal, length-decimal-le, All-cons, All-head}
 use Rattle.live_input.proofs.Terms.{All-nil, All-tail, slice_split_at, bytes_eq-Decides}
 use Rattle.live_input.proofs.Terms.{IsNumeralModel, numerals_by_value, moment_of, same_word}
-use Rattle.live_input.proofs.Terms.{is_bang, is_separator, is_word, words_of, Command, call_of}
-use Rattle.live_input.proofs.Terms.{command_of, command_with, reading_of, behind_moment}
+use Rattle.live_input.proofs.Terms.{is_bang, is_separator, is_word, words_of, Instruction, call_of}
+use Rattle.live_input.proofs.Terms.{instruction_of, instruction_with, reading_of, behind_moment}
 use Rattle.std.specs.Prelude.{map}
 use Rattle.console.specs.declared.call.Call.TheVariants.{Order}
 use Rattle.console.specs.Spelling as spelling
@@ -79,19 +79,20 @@ pub reading_is : (moment : ℕ) (line : List ℕ) → moment < 2 ^ 48
     ≡ spelling.reading_at (Some moment) (call_of (words_of line))
 reading_is moment line below = rw (words_behind moment line below, moment_is moment below) refl
 
--- ---- commands
+-- ---- instructions
 
--- `tick` spells no command
+-- `tick` spells no instruction
 not_tick : (keyword : List ℕ) (operands : List (List ℕ)) → same_word keyword (codes "tick") ≡ true
-    → command_with keyword operands ≡ None
+    → instruction_with keyword operands ≡ None
 not_tick keyword (a ∷ b ∷ c ∷ d ∷ rest) h = refl
 not_tick keyword _ h =
     rw ((bytes_eq-Decides (map to_ascii_lowercase keyword) (codes "tick")).0 h) refl
 
-pub call_is : (words : List (List ℕ)) (command : Command) → command_of words ≡ Some command
-    → call_of words ≡ Some (Order command)
-call_is [] command h = cc
-call_is (keyword ∷ operands) command h =
-    cond_both (same_word keyword (codes "tick")) _ _ (λ call. call ≡ Some (Order command))
+pub call_is : (words : List (List ℕ)) (instruction : Instruction)
+    → instruction_of words ≡ Some instruction
+    → call_of words ≡ Some (Order instruction)
+call_is [] instruction h = cc
+call_is (keyword ∷ operands) instruction h =
+    cond_both (same_word keyword (codes "tick")) _ _ (λ call. call ≡ Some (Order instruction))
     (λ e. let none = not_tick keyword operands e in cc)
     (λ e. ap (option_map (λ c. Order c)) h)

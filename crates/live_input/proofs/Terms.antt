@@ -12,14 +12,15 @@ pub use Rattle.std.proofs.lemmas.Bool.{agree_below, agree_below_at}
 pub use Rattle.std.proofs.lemmas.Bool.Decides.{nat_tests}
 pub use Rattle.show_core.specs.Tables.{Tables}
 pub use Rattle.master_core.specs.Settings.{Setting}
-pub use Rattle.desk_core.specs.declared.command.Command.{Command}
-pub use Rattle.desk_core.specs.declared.command.Command.TheVariants.{End, Master, Go, Back, Goto, GotoIn}
+pub use Rattle.desk_core.specs.declared.command.Command.TheVariants.{End, Master, Go, Back, Goto}
 pub use Rattle.desk_core.specs.declared.command.Command.TheVariants.{Sub, Group}
+pub use Rattle.desk_core.specs.declared.instruction.Instruction.{Instruction}
+pub use Rattle.desk_core.specs.declared.instruction.Instruction.TheVariants.{Plain, GotoIn}
 pub use Rattle.desk_core.specs.Played.{Act, last_act_moment, last_tick}
 pub use Rattle.live_input.specs.declared.progress.Stage.{Stage}
 pub use Rattle.live_input.specs.declared.progress.Stage.TheVariants.{On, Dark, Ended}
 pub use Rattle.live_input.specs.Laws.{IsDim, accepted_acts, since_end, acts_with, IsOn, IsEnding}
-pub use Rattle.live_input.specs.Laws.{was_left, words_given, PlayTakes, IsSpelled, SpellsCommand}
+pub use Rattle.live_input.specs.Laws.{was_left, words_given, PlayTakes, IsSpelled, SpellsInstruction}
 pub use Rattle.live_input.specs.Laws.{lines_text, AlwaysRise, LinesFollowTicks, Rise, TicksGoFirst}
 pub use Rattle.live_input.specs.Laws.{moment_given, tick_moment, RecordsAreRecalled, IsTick}
 pub use Rattle.live_input.specs.Laws.{NothingIsAsked, TicksAreNext}
@@ -27,7 +28,7 @@ pub use Rattle.live_input.specs.Night.{refusal, Answer, Happening, answer_to, an
 pub use Rattle.live_input.specs.Night.{next_tick, close, dim, is_on, is_through, now, order, stage}
 pub use Rattle.live_input.specs.Night.{stage_by, tick, before_lines, bytes_come, by_itself}
 pub use Rattle.live_input.specs.Night.{ignored_keys, is_over, lines_answered, request_of, to_line}
-pub use Rattle.live_input.specs.Night.{to_request, asks_help, behind_moment, command_asked, is_only}
+pub use Rattle.live_input.specs.Night.{to_request, asks_help, behind_moment, instruction_asked, is_only}
 pub use Rattle.live_input.specs.Night.{order_asked, words_asked, ends_with_input, goes_first}
 pub use Rattle.live_input.specs.Night.{is_light_down, unanswered_lines, to_lines, place, help, wait}
 pub use Rattle.live_input.specs.Night.{over, lines_given, came, closed, was_tick, with_given}
@@ -43,7 +44,7 @@ pub use Rattle.live_input.specs.Stands.{StandsFor, TakesLine, TypedStands, IsNex
 pub use Rattle.live_input.specs.declared.given.Given.{Given}
 pub use Rattle.live_input.specs.Told.{Leaves, Tells, TellsFirst, IsGiven}
 pub use Rattle.ascii_text.specs.Text.{words_of, lines_of, is_bang, is_separator, is_word}
-pub use Rattle.console.specs.Spelling.{command_of, call_of, is_malformed, reading_of, command_with}
+pub use Rattle.console.specs.Spelling.{instruction_of, call_of, is_malformed, reading_of, instruction_with}
 pub use Rattle.live_input.specs.declared.reason.Reason.{Reason}
 pub use Rattle.std.proofs.lemmas.List.{take_all, append_cancel_right, drop_more, take_min}
 pub use Rattle.std.proofs.lemmas.List.{length-take, take-append-le}

@@ -9,11 +9,12 @@ use Rattle.show_core.specs.Tables.{Tables}
 use Rattle.master_core.specs.Settings.{Setting, grand_after}
 use Rattle.desk_core.specs.Played as desk
 use Rattle.desk_core.specs.Played.{Act, refusal}
-use Rattle.desk_core.specs.declared.command.Command.{Command}
 use Rattle.desk_core.specs.declared.command.Command.TheVariants.{End, Master}
+use Rattle.desk_core.specs.declared.instruction.Instruction.{Instruction}
+use Rattle.desk_core.specs.declared.instruction.Instruction.TheVariants.{Plain}
 use Rattle.console.specs.declared.call.Call.TheVariants.{Order, Tick}
 use Rattle.console.specs.declared.reading.Reading.TheVariants.{At}
-use Rattle.console.specs.Spelling.{command_of, is_malformed, reading_of}
+use Rattle.console.specs.Spelling.{instruction_of, is_malformed, reading_of}
 use Rattle.live_input.specs.Night.{Answer, Happening, answer_to, answers, behind_moment, bytes_come}
 use Rattle.live_input.specs.Night.{ends_with_input, lines_answered, lines_given, stage}
 use Rattle.live_input.specs.Night.{asked, next_tick, is_light_down, is_over, unanswered_lines, now}
@@ -40,21 +41,21 @@ pub record PlayTakes (lines : List (List ℕ)) : Type 0 where
 abbrev pub LinesAreFine : Type 0
 LinesAreFine = (h : List Happening) → PlayTakes (lines_of (lines_text (lines_given (answers h))))
 
--- a line of this command at this moment
-abbrev pub SpellsCommand : Option Command → ℕ → List ℕ → Type 0
-SpellsCommand (Some command) moment line =
-    reading_of (behind_moment moment line) ≡ At moment (Order command)
-SpellsCommand None moment line = ⊥
+-- a line of this instruction at this moment
+abbrev pub SpellsInstruction : Option Instruction → ℕ → List ℕ → Type 0
+SpellsInstruction (Some instruction) moment line =
+    reading_of (behind_moment moment line) ≡ At moment (Order instruction)
+SpellsInstruction None moment line = ⊥
 
--- a line that is given spells the very command that was typed, `master 0`, `end` or a tick, at its
+-- a line that is given spells the very instruction that was typed, `master 0`, `end` or a tick, at its
 -- moment
 abbrev pub IsSpelled : Answer → Type 0
 IsSpelled (order moment line) =
-    SpellsCommand (command_of (words_of (without_keys line))) moment (without_keys line)
+    SpellsInstruction (instruction_of (words_of (without_keys line))) moment (without_keys line)
 IsSpelled (dim moment typed) =
-    reading_of (behind_moment moment (codes "master 0")) ≡ At moment (Order (Master 0))
+    reading_of (behind_moment moment (codes "master 0")) ≡ At moment (Order (Plain (Master 0)))
 IsSpelled (close moment typed) =
-    reading_of (behind_moment moment (codes "end")) ≡ At moment (Order End)
+    reading_of (behind_moment moment (codes "end")) ≡ At moment (Order (Plain End))
 IsSpelled (tick moment) = reading_of (behind_moment moment (codes "tick")) ≡ At moment Tick
 IsSpelled _ = Unit {0}
 
@@ -213,10 +214,10 @@ EndsAreWhole =
 -- the call that a line which is given spells
 abbrev pub act_in : Answer → Option Act
 act_in (order moment line) =
-    option_map (λ command. record { moment = moment; call = desk.order command })
-    (command_of (words_of (without_keys line)))
-act_in (dim moment typed) = Some (record { moment = moment; call = desk.order (Master 0) })
-act_in (close moment typed) = Some (record { moment = moment; call = desk.order End })
+    option_map (λ instruction. record { moment = moment; call = desk.order instruction })
+    (instruction_of (words_of (without_keys line)))
+act_in (dim moment typed) = Some (record { moment = moment; call = desk.order (Plain (Master 0)) })
+act_in (close moment typed) = Some (record { moment = moment; call = desk.order (Plain End) })
 act_in (tick moment) = Some (record { moment = moment; call = desk.tick })
 act_in _ = None
 

@@ -6,9 +6,10 @@ use Rattle.std.specs.Prelude.{unwrap_or}
 use Rattle.std.specs.Option.{option_map_or}
 use Rattle.ascii_text.specs.Forms.{same_word}
 use Rattle.ascii_text.specs.Text.{words_of}
-use Rattle.desk_core.specs.declared.command.Command.{Command}
-use Rattle.console.specs.Spelling.{command_of}
+use Rattle.console.specs.Spelling.{instruction_of}
 use Rattle.desk_core.specs.declared.command.Command.TheVariants.{End}
+use Rattle.desk_core.specs.declared.instruction.Instruction.{Instruction}
+use Rattle.desk_core.specs.declared.instruction.Instruction.TheVariants.{Plain}
 use Rattle.live_input.specs.declared.progress.Stage.{Stage}
 use Rattle.live_input.specs.declared.progress.Stage.TheVariants.{On, Dark, Ended}
 use Rattle.live_input.specs.declared.reason.Reason.{Reason}
@@ -143,15 +144,15 @@ abbrev pub asks_help : List (List ℕ) → Bool
 asks_help words = is_only (codes "help") words || is_only (codes "?") words
 
 -- a command
-abbrev pub command_asked : List (List ℕ) → Option Command → Request
-command_asked words None = Nothing (refusal_reason words)
-command_asked words (Some End) = Finish
-command_asked words (Some command) = Order command
+abbrev pub instruction_asked : List (List ℕ) → Option Instruction → Request
+instruction_asked words None = Nothing (refusal_reason words)
+instruction_asked words (Some (Plain End)) = Finish
+instruction_asked words (Some instruction) = Order instruction
 
 -- `leave`, which ends the night and leaves the light to another console, or a command
 abbrev pub order_asked : List (List ℕ) → Request
 order_asked words =
-    if is_only (codes "leave") words then Leave else command_asked words (command_of words)
+    if is_only (codes "leave") words then Leave else instruction_asked words (instruction_of words)
 
 -- what words ask for: `where` and `help` at any time, all else before an `end`
 abbrev pub words_asked : Bool → List (List ℕ) → Request
@@ -173,7 +174,7 @@ to_request moment line Where = place moment line
 to_request moment line Help = help line
 to_request moment line Leave = close moment (Some line)
 to_request moment line Finish = dim moment (Some line)
-to_request moment line (Order command) = order moment line
+to_request moment line (Order instruction) = order moment line
 
 abbrev pub to_line : List Answer → ℕ → List ℕ → Answer
 to_line given moment line =

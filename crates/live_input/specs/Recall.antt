@@ -1,6 +1,7 @@
 -- A record whose lines are given again. Lines, happenings and answers have the newest first.
 use Rattle.std.specs.Prelude.{◌≡◌, ◌≤◌, ℕ, ◌+◌, List, [], ◌∷◌, ◌++◌, codes, decimal, drop, length}
 use Rattle.desk_core.specs.declared.command.Command.TheVariants.{End}
+use Rattle.desk_core.specs.declared.instruction.Instruction.TheVariants.{Plain}
 use Rattle.console.specs.declared.call.Call.{Call}
 use Rattle.console.specs.declared.call.Call.TheVariants.{Order, Tick}
 use Rattle.console.specs.declared.reading.Reading.{Reading}
@@ -12,8 +13,8 @@ use Rattle.live_input.specs.Night.{Happening, answers, asked, came, lines_given,
 -- `leave`, since `master 0` and the dark ticks before it have lines of their own
 abbrev pub typed_again : ℕ → Call → List ℕ → List Happening → List Happening
 typed_again moment Tick line happened = happened
-typed_again moment (Order End) line happened = came (codes "leave\n") ∷ happened
-typed_again moment (Order command) line happened =
+typed_again moment (Order (Plain End)) line happened = came (codes "leave\n") ∷ happened
+typed_again moment (Order instruction) line happened =
     came (drop (length (decimal moment) + 1) line) ∷ happened
 
 -- what has to happen so that a line is given again: its words are typed, and it is asked at its

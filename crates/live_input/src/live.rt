@@ -11,7 +11,7 @@ use crate::keys::has_keys;
 use crate::progress::Progress;
 use crate::typed::TypedLines;
 use console::{Call, Reading, read_call};
-use desk_core::{Command, MOMENTS};
+use desk_core::{Command, Instruction, MOMENTS};
 use itoa::Buffer;
 use std::marker::Model;
 
@@ -177,7 +177,7 @@ impl LiveInput {
     {
         match call {
             Call::Tick => {}
-            Call::Order(Command::End) => self.take_bytes(b"leave\n"),
+            Call::Order(Instruction::Plain(Command::End)) => self.take_bytes(b"leave\n"),
             Call::Order(_) => {
                 let words = line.len().min(Buffer::new().format(moment).len() + 1);
                 self.take_bytes(&line[words..]);

@@ -11,7 +11,7 @@ use crate::given::{Given, given_line, refused_text};
 use crate::keys::without_keys;
 use crate::request::{Request, request_of};
 use console::Call;
-use desk_core::{Command, ENDING_TICKS, SHORTEST_GAP};
+use desk_core::{Command, ENDING_TICKS, Instruction, SHORTEST_GAP};
 
 // Ticks come on a grid, 40 a second.
 const GRID: u64 = 25;
@@ -97,8 +97,8 @@ impl Progress {
             Request::Help => self.give(Given::Help),
             Request::Leave => self.close(now),
             Request::Finish => self.dim(now),
-            Request::Order(command) => {
-                self.give(Given::Line(given_line(now, Call::Order(command), text)))
+            Request::Order(instruction) => {
+                self.give(Given::Line(given_line(now, Call::Order(instruction), text)))
             }
         }
     }
@@ -149,7 +149,8 @@ impl Progress {
     {
         self.stage = Stage::Dark(0);
         self.ticked = false;
-        Given::Line(given_line(now, Call::Order(Command::Master(0)), b"master 0"))
+        let dark = Call::Order(Instruction::Plain(Command::Master(0)));
+        Given::Line(given_line(now, dark, b"master 0"))
     }
 
     // The streams end.
@@ -163,7 +164,8 @@ impl Progress {
     {
         self.stage = Stage::Ended(0);
         self.ticked = false;
-        Given::Line(given_line(now, Call::Order(Command::End), b"end"))
+        let end = Call::Order(Instruction::Plain(Command::End));
+        Given::Line(given_line(now, end, b"end"))
     }
 
     fn tick(&mut self, now: u64) -> Given

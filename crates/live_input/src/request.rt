@@ -6,8 +6,8 @@ ghost use Rattle.live_input.specs.Night as night;
 use crate::given::fits;
 use crate::reason::{Reason, reason_of};
 use ascii_text::{Words, same_word};
-use console::command_in;
-use desk_core::Command;
+use console::instruction_in;
+use desk_core::{Command, Instruction};
 
 /// What a typed line asks for.
 #[derive(Clone, Copy, Debug)]
@@ -21,8 +21,8 @@ pub enum Request {
     Leave,
     /// The end of the night, dark.
     Finish,
-    /// Any other command.
-    Order(Command),
+    /// Any other instruction.
+    Order(Instruction),
 }
 
 // What a line asks for at this moment, by its text without keys; commands are taken where the night
@@ -58,10 +58,10 @@ fn order_asked(text: &[u8]) -> Request
     if is_only(b"leave", text) {
         return Request::Leave;
     }
-    match command_in(&mut Words::new(text)) {
+    match instruction_in(&mut Words::new(text)) {
         None => Request::Nothing(reason_of(text)),
-        Some(Command::End) => Request::Finish,
-        Some(command) => Request::Order(command),
+        Some(Instruction::Plain(Command::End)) => Request::Finish,
+        Some(instruction) => Request::Order(instruction),
     }
 }
 

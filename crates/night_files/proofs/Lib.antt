@@ -1,4 +1,1 @@
-pub mod CidLockOrder
-pub mod HolderOrder
 mod LockSearch
-pub mod RecordOrder

@@ -7,10 +7,9 @@ use Rattle.night_files.specs.declared.fault.DeviceFault.{DeviceFault}
 use Rattle.night_files.specs.declared.fault.DeviceFault.TheVariants as device
 use Rattle.night_files.specs.declared.fault.RecordFault.{RecordFault}
 use Rattle.night_files.specs.declared.fault.RecordFault.TheVariants as record_fault_of
-use Rattle.night_files.specs.declared.record_opening.FileFault.{FileFault}
-use Rattle.night_files.specs.declared.record_opening.FileFault.TheVariants as file
-use Rattle.night_files.specs.declared.record_opening.OpeningFault.{OpeningFault}
-use Rattle.night_files.specs.declared.record_opening.OpeningFault.TheVariants.{File, Refused}
+use Rattle.night_files.specs.declared.fault.FileFault.{FileFault}
+use Rattle.night_files.specs.declared.fault.FileFault.TheVariants as file
+use Rattle.night_files.specs.declared.record_use.RecordRefusal.{RecordRefusal}
 use Rattle.night_files.specs.declared.record_use.RecordRefusal.TheVariants as refusal
 
 -- the system is out of memory, or gives its reason
@@ -28,15 +27,13 @@ abbrev pub file_record_fault : FileFault → RecordFault
 file_record_fault file.Memory = record_fault_of.Memory
 file_record_fault (file.System reason) = record_fault_of.File reason
 
--- a record that is not opened, or not taken over: a file whose name leads to another one by now is
--- told as one that is not found
-abbrev pub record_fault : OpeningFault → RecordFault
-record_fault (File fault) = file_record_fault fault
-record_fault (Refused refusal.NotEmpty) = record_fault_of.NotEmpty
-record_fault (Refused refusal.NoFile) = record_fault_of.NoFile
-record_fault (Refused (refusal.InUse holder)) = record_fault_of.InUse holder
-record_fault (Refused refusal.NoLocks) = record_fault_of.NoLocks
-record_fault (Refused refusal.OtherName) = record_fault_of.File kind.NotFound
+-- a record that is kept in no such file: one whose name leads to another one by now is told as one
+-- that is not found
+abbrev pub refused_record : RecordRefusal → RecordFault
+refused_record refusal.NotEmpty = record_fault_of.NotEmpty
+refused_record refusal.NoFile = record_fault_of.NoFile
+refused_record refusal.NoLocks = record_fault_of.NoLocks
+refused_record refusal.OtherName = record_fault_of.File kind.NotFound
 
 -- a device that failed for a reason: the system is out of memory, or the device is told
 abbrev pub device_fault : ErrorKind → DeviceFault → DeviceFault

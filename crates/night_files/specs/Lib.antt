@@ -1,12 +1,6 @@
-pub mod CidLockLaws
-pub mod CidLocks
 pub mod FileFaults
+pub mod FileLocks
 pub mod FileNodes
-pub mod LockHolders
 pub mod LockLists
 pub mod LockPaths
-pub mod LockSteps
-pub mod RecordLaws
-pub mod RecordOpenings
-pub mod RecordRemovals
 pub mod RecordUses

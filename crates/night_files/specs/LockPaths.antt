@@ -2,13 +2,18 @@
 use Rattle.std.specs.Prelude.{ℕ, Bool, List, [], ◌∷◌, ◌++◌, codes, decimal, length, nat_le}
 use Rattle.std.specs.Prelude.{Option, Some, None, Result, Ok, Err, String, option_map}
 use Rattle.std.specs.Prelude.{string_bytes}
-use Rattle.std.specs.Prelude.{if◌then◌else◌}
+use Rattle.std.specs.Prelude.{◌&&◌, nat_eq, if◌then◌else◌}
 use Rattle.std.specs.declared.env.VarError.{VarError}
 use Rattle.std.specs.declared.env.VarError.TheVariants as variable
 use Rattle.arrayvec.specs.declared.array_string.ArrayString.{ArrayString}
 use Rattle.hex.specs.Hex.{encode_lower}
-use Rattle.night_files.specs.declared.record_opening.FileFault.{FileFault}
-use Rattle.night_files.specs.declared.record_opening.FileFault.TheVariants.{Memory}
+use Rattle.night_files.specs.declared.cid_lock.FoundFolder.{FoundFolder}
+use Rattle.night_files.specs.declared.fault.FileFault.{FileFault}
+use Rattle.night_files.specs.declared.fault.FileFault.TheVariants.{Memory}
+
+-- a folder, and no link, that is this user's
+abbrev pub is_own_folder : FoundFolder → ℕ → Bool
+is_own_folder found user = found.is_folder && nat_eq found.owner user
 
 -- the folder that the system gives a user for what is there while the user is
 abbrev pub runtime_folder : ℕ → List ℕ

@@ -1,10 +1,10 @@
 -- Which files a record is kept in.
 use Rattle.std.specs.Prelude.{ℕ, Bool, true, false, nat_eq, nat_lt, Option, Some, None}
 use Rattle.std.specs.Prelude.{Result, Ok, Err, if◌then◌else◌}
-use Rattle.night_files.specs.declared.lock_request.FileLock.{FileLock}
-use Rattle.night_files.specs.declared.lock_request.FileLock.TheVariants.{Missing, Ours, Theirs}
-use Rattle.night_files.specs.declared.record_opening.FileFault.{FileFault}
-use Rattle.night_files.specs.declared.record_opening.FoundFile.{FoundFile}
+use Rattle.night_files.specs.declared.file_lock.FileLock.{FileLock}
+use Rattle.night_files.specs.declared.file_lock.FileLock.TheVariants.{Missing, Ours, Theirs}
+use Rattle.night_files.specs.declared.fault.FileFault.{FileFault}
+use Rattle.night_files.specs.declared.file_node.FoundFile.{FoundFile}
 use Rattle.night_files.specs.declared.record_use.FileAccess.{FileAccess}
 use Rattle.night_files.specs.declared.record_use.RecordRefusal.{RecordRefusal}
 use Rattle.night_files.specs.declared.record_use.RecordRefusal.TheVariants as refusal
@@ -48,6 +48,12 @@ lock_to_take_over Missing = Err refusal.NoLocks
 abbrev pub is_unused : FileLock → Option ℕ → Bool
 is_unused Ours (Some length) = nat_eq length 0
 is_unused lock length = false
+
+-- which record is removed where no night began in it: the one that is given, else the one whose file
+-- was made for this run
+abbrev pub unused_record : {N : Type 0} → Option N → Option N → Option N
+unused_record (Some name) made = Some name
+unused_record None made = made
 
 -- what a night opens its file for
 abbrev pub use_of_night : Bool → RecordUse

@@ -1,10 +1,11 @@
 ghost use Rattle.std.specs.Prelude.{◌≡◌};
 ghost use Rattle.std.specs.IoError.{error_kind};
-ghost use Rattle.night_files.specs.FileFaults.{device_fault, file_record_fault, record_fault};
+ghost use Rattle.night_files.specs.FileFaults.{device_fault, file_fault, file_record_fault};
+ghost use Rattle.night_files.specs.FileFaults.{refused_record, unread_fault};
 ghost use Rattle.night_files.specs.declared.fault.DeviceFault.TheVariants as device;
 
-use crate::record_opening::{FileFault, OpeningFault};
 use crate::record_use::RecordRefusal;
+use byte_reading::Unread;
 use std::io::{Error, ErrorKind};
 
 /// Why a device cannot be had.
@@ -59,19 +60,46 @@ impl From<FileFault> for RecordFault {
     }
 }
 
-impl From<OpeningFault> for RecordFault {
-    ghost from_gives = { λ given e. e ≡ record_fault given };
+impl From<RecordRefusal> for RecordFault {
+    ghost from_gives = { λ given e. e ≡ refused_record given };
 
-    fn from(fault: OpeningFault) -> RecordFault {
-        match fault {
-            OpeningFault::File(fault) => RecordFault::from(fault),
-            OpeningFault::Refused(RecordRefusal::NotEmpty) => RecordFault::NotEmpty,
-            OpeningFault::Refused(RecordRefusal::NoFile) => RecordFault::NoFile,
-            OpeningFault::Refused(RecordRefusal::InUse(holder)) => RecordFault::InUse(holder),
-            OpeningFault::Refused(RecordRefusal::NoLocks) => RecordFault::NoLocks,
-            OpeningFault::Refused(RecordRefusal::OtherName) => {
-                RecordFault::File(ErrorKind::NotFound)
-            }
+    fn from(refusal: RecordRefusal) -> RecordFault {
+        match refusal {
+            RecordRefusal::NotEmpty => RecordFault::NotEmpty,
+            RecordRefusal::NoFile => RecordFault::NoFile,
+            RecordRefusal::NoLocks => RecordFault::NoLocks,
+            RecordRefusal::OtherName => RecordFault::File(ErrorKind::NotFound),
+        }
+    }
+}
+
+/// Why the system did not do a step.
+#[derive(Clone, Copy, Debug, PartialEq, Eq)]
+pub enum FileFault {
+    /// The system's reason.
+    System(ErrorKind),
+    /// An allocation failed.
+    Memory,
+}
+
+impl From<Error> for FileFault {
+    ghost from_gives = { λ given e. e ≡ file_fault (error_kind given) };
+
+    fn from(error: Error) -> FileFault {
+        match error.kind() {
+            ErrorKind::OutOfMemory => FileFault::Memory,
+            kind => FileFault::System(kind),
+        }
+    }
+}
+
+impl From<Unread> for FileFault {
+    ghost from_gives = { λ given e. e ≡ unread_fault given };
+
+    fn from(unread: Unread) -> FileFault {
+        match unread {
+            Unread::Device(kind) => FileFault::System(kind),
+            Unread::Memory => FileFault::Memory,
         }
     }
 }

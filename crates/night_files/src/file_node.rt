@@ -19,6 +19,15 @@ impl FileNode {
     }
 }
 
+/// What an open file is.
+#[derive(Clone, Copy, Debug, PartialEq, Eq)]
+pub struct FoundFile {
+    pub node: FileNode,
+    pub is_regular: bool,
+    /// So many bytes stand in it.
+    pub length: u64,
+}
+
 /// The descriptor by which the lock of a record's file is asked for: the one that a name spells,
 /// as `/dev/fd/3`, where that name leads to the same file; else the file's own.
 pub fn lock_descriptor(own: i32, node: Option<FileNode>, named: Option<FileNode>, name: &str) -> i32

@@ -2,7 +2,7 @@ ghost use Rattle.std.specs.Prelude.{◌≡◌, ◌++◌, IfOk, codes, option_map
 ghost use Rattle.night_files.specs.LockPaths.{folder_bytes, lock_folder, lock_path, named_folder};
 ghost use Rattle.night_files.specs.LockPaths.{runtime_folder, short_path, variable_bytes};
 
-use crate::record_opening::FileFault;
+use crate::fault::FileFault;
 use arrayvec::ArrayString;
 use itoa::Buffer;
 use std::alloc::{AllocError, Global};

@@ -1,10 +1,11 @@
 ghost use Rattle.std.specs.Prelude.{◌≡◌};
 ghost use Rattle.night_files.specs.RecordUses.{access_to, is_cut_due, is_unused, kept_length};
 ghost use Rattle.night_files.specs.RecordUses.{lock_to_take_over, refusal_of};
-ghost use Rattle.night_files.specs.RecordUses.{refusal_once_locked, use_of_night};
+ghost use Rattle.night_files.specs.RecordUses.{refusal_once_locked, unused_record, use_of_night};
 
-use crate::lock_request::FileLock;
-use crate::record_opening::{FileFault, FoundFile};
+use crate::fault::FileFault;
+use crate::file_lock::FileLock;
+use crate::file_node::FoundFile;
 
 /// What a record's file is opened for.
 #[derive(Clone, Copy, Debug, PartialEq, Eq)]
@@ -35,8 +36,6 @@ pub enum RecordRefusal {
     NotEmpty,
     /// It is no regular file.
     NoFile,
-    /// Another process holds its lock: this one, where that is known.
-    InUse(Option<u32>),
     /// The file system has no locks.
     NoLocks,
     /// Its name leads to another file, or to none, by now.
@@ -117,6 +116,17 @@ pub fn is_unused(lock: FileLock, length: Option<u64>) -> bool
     ensures { result ≡ is_unused lock length }
 {
     lock == FileLock::Ours && length == Some(0)
+}
+
+/// The name of the record that is removed if no night began in it: the one that is given, else that
+/// of the file that was made for this run.
+pub fn unused_record<'a>(given: Option<&'a str>, made: Option<&'a str>) -> Option<&'a str>
+    ensures { result ≡ unused_record given.entry made.entry }
+{
+    match given {
+        Some(name) => Some(name),
+        None => made,
+    }
 }
 
 /// How many bytes stand in what a record is kept in; 0 in a FIFO or a device, and where the system

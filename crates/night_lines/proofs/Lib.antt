@@ -1,4 +1,3 @@
 mod Rows
 mod RowsStart
 mod Told
-pub mod Looking

@@ -11,6 +11,6 @@ pub mod Sources
 pub mod NoticeLines
 pub mod StartNetworks
 pub mod Starts
-pub mod Kept
+pub mod Lines
 pub mod BoothLines
-pub mod Lookups
+pub mod FoundNetworks

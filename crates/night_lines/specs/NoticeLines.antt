@@ -12,7 +12,6 @@ use Rattle.night_lines.specs.Notices.{path_notice_line, source_notice_line}
 use Rattle.night_lines.specs.Sources.{origin_of}
 use Rattle.night_lines.specs.declared.night_source.NightSource.{NightSource}
 use Rattle.night_lines.specs.declared.notices.NoticeNetwork.{NoticeNetwork}
-use Rattle.packet_paths.specs.declared.routed_notices.RoutedNotice.{RoutedNotice}
 use Rattle.night_lines.specs.declared.path_notices.Way.{Way}
 
 -- the address at a place, and its card
@@ -30,17 +29,14 @@ way_of sources path = record {
 }
 
 -- the line of a notice, by what stands at its place, and by the route to its host
-abbrev pub line_of_notice : ℕ → NoticeNetwork → Option Route → LinkNotice → Option (List ℕ)
-line_of_notice moment network route (notice.Source place news) = option_map
+abbrev pub notice_line : ℕ → NoticeNetwork → Option Route → LinkNotice → Option (List ℕ)
+notice_line moment network route (notice.Source place news) = option_map
     (λ source. source_notice_line moment (origin_of source) news)
     (slice_get network.sources.now place)
-line_of_notice moment network route (notice.Path place news) = option_map
+notice_line moment network route (notice.Path place news) = option_map
     (λ path. path_notice_line moment (way_of network.sources.now path) news
     (option_map route_seen route))
     (slice_get network.paths.now place)
-
-abbrev pub notice_line : ℕ → NoticeNetwork → RoutedNotice → Option (List ℕ)
-notice_line moment network routed = line_of_notice moment network routed.route routed.notice
 
 abbrev pub notice_seen : ArrayString 156 → List ℕ
 notice_seen line = line.bytes

@@ -1,5 +1,6 @@
-ghost use Rattle.std.specs.Prelude.{◌≡◌, ◌≤◌, ◌++◌, ◌∷◌, [], length, map, IfSome};
+ghost use Rattle.std.specs.Prelude.{◌≡◌, ◌≤◌, ◌++◌, ◌∷◌, [], false, length, map, IfOk, IfSome};
 ghost use Rattle.std.specs.Option.{option_to_list};
+ghost use Rattle.night_lines.specs.Lines.{lines_of};
 ghost use Rattle.night_lines.specs.Sends.{sends_line};
 ghost use Rattle.night_lines.specs.Starts as spec;
 ghost use Rattle.night_lines.specs.Targets.{target_line};
@@ -7,12 +8,13 @@ ghost use Rattle.night_lines.specs.Targets.{target_line};
 use crate::contents::contents_line;
 use crate::ending::ending_line;
 use crate::follow::{MainNight, main_line, take_line};
+use crate::lines::Lines;
 use crate::record::{Recording, no_record_line, record_line};
 use crate::sends::{Transmission, sends_line};
-use crate::start_network::{StartNetwork, tell_network};
+use crate::start_network::{StartNetwork, push_network};
 use crate::target_lines::{sole_target, target_line};
-use crate::teller::LineTeller;
 use show_core::Counts;
+use std::alloc::{AllocError, Global};
 use targets::{Target, Targets};
 
 /// What is told of a show at the start of a night.
@@ -42,100 +44,114 @@ pub struct NightStart<'a> {
     pub is_interruptible: bool,
 }
 
-/// Tells what a night plays, what it sends and where, how its packets leave this machine, where it
-/// is recorded, and whom it follows or what ends it. The names of files are shown in at most 256
-/// bytes.
-pub fn tell_start<T: LineTeller>(teller: &mut T, start: &NightStart<'_>)
+/// The lines of what a night plays, what it sends and where, how its packets leave this machine,
+/// where it is recorded, and whom it follows or what ends it. The names of files are shown in at
+/// most 256 bytes.
+///
+/// # Errors
+///
+/// If an allocation failed.
+pub fn start_lines(alloc: Global, start: &NightStart<'_>) -> Result<Lines, AllocError>
     requires recording { IfSome start.now.recording (λ one. length one.file.now ≤ 256) }
     requires main { IfSome start.now.main (λ one. length one.file.now ≤ 256) }
-    ensures told { T.tells teller.new → T.tells teller.old }
-    ensures lines { T.tells teller.new
-        → T.lines teller.new ≡ T.lines teller.old ++ spec.start_lines start.now }
+    ensures { IfOk result (λ lines. lines_of lines ≡ spec.start_lines start.now) }
 {
-    tell_show(teller, &start.show);
-    tell_sends(teller, &start.sends);
-    tell_network(teller, &start.network);
-    tell_record(teller, &start.recording);
-    tell_end(teller, &start.main, start.is_interruptible);
+    let mut lines = Lines::new(alloc);
+    push_start(&mut lines, start);
+    lines.whole()
 }
 
-fn tell_show<T: LineTeller>(teller: &mut T, show: &StartShow<'_>)
-    ensures told { T.tells teller.new → T.tells teller.old }
-    ensures lines { T.tells teller.new
-        → T.lines teller.new ≡ T.lines teller.old ++ spec.show_lines show.now }
+fn push_start(lines: &mut Lines, start: &NightStart<'_>)
+    requires recording { IfSome start.now.recording (λ one. length one.file.now ≤ 256) }
+    requires main { IfSome start.now.main (λ one. length one.file.now ≤ 256) }
+    ensures told { lines.new.is_full ≡ false → lines.old.is_full ≡ false }
+    ensures lines { lines.new.is_full ≡ false
+        → lines_of lines.new ≡ lines_of lines.old ++ spec.start_lines start.now }
+{
+    push_show(lines, &start.show);
+    push_sends(lines, &start.sends);
+    push_network(lines, &start.network);
+    push_record(lines, &start.recording);
+    push_end(lines, &start.main, start.is_interruptible);
+}
+
+fn push_show(lines: &mut Lines, show: &StartShow<'_>)
+    ensures told { lines.new.is_full ≡ false → lines.old.is_full ≡ false }
+    ensures lines { lines.new.is_full ≡ false
+        → lines_of lines.new ≡ lines_of lines.old ++ spec.show_lines show.now }
 {
     let contents = contents_line(show.counts, show.skipped, show.notes);
-    teller.tell(contents.as_str().as_bytes());
+    lines.push(contents.as_str().as_bytes());
     if let Some(line) = show.seeming
         && show.counts.cues == 0
     {
-        teller.tell(line);
+        lines.push(line);
     }
 }
 
-fn tell_sends<T: LineTeller>(teller: &mut T, sends: &Transmission<'_>)
-    ensures told { T.tells teller.new → T.tells teller.old }
-    ensures lines { T.tells teller.new
-        → T.lines teller.new ≡ T.lines teller.old ++ spec.sends_lines sends.now }
+fn push_sends(lines: &mut Lines, sends: &Transmission<'_>)
+    ensures told { lines.new.is_full ≡ false → lines.old.is_full ≡ false }
+    ensures lines { lines.new.is_full ≡ false
+        → lines_of lines.new ≡ lines_of lines.old ++ spec.sends_lines sends.now }
 {
-    tell_sends_line(teller, sends);
-    tell_targets(teller, sends.targets);
+    push_sends_line(lines, sends);
+    push_targets(lines, sends.targets);
 }
 
-fn tell_sends_line<T: LineTeller>(teller: &mut T, sends: &Transmission<'_>)
-    ensures told { T.tells teller.new → T.tells teller.old }
-    ensures line { T.tells teller.new → T.lines teller.new
-        ≡ T.lines teller.old ++ option_to_list (sends_line sends.now) }
+fn push_sends_line(lines: &mut Lines, sends: &Transmission<'_>)
+    ensures told { lines.new.is_full ≡ false → lines.old.is_full ≡ false }
+    ensures line { lines.new.is_full ≡ false
+        → lines_of lines.new ≡ lines_of lines.old ++ option_to_list (sends_line sends.now) }
 {
     if let Some(line) = sends_line(sends) {
-        teller.tell(line.as_str().as_bytes());
+        lines.push(line.as_str().as_bytes());
     }
 }
 
-fn tell_targets<T: LineTeller>(teller: &mut T, targets: &Targets)
-    ensures told { T.tells teller.new → T.tells teller.old }
-    ensures lines { T.tells teller.new
-        → T.lines teller.new ≡ T.lines teller.old ++ spec.target_lines targets.now }
+fn push_targets(lines: &mut Lines, targets: &Targets)
+    ensures told { lines.new.is_full ≡ false → lines.old.is_full ≡ false }
+    ensures lines { lines.new.is_full ≡ false
+        → lines_of lines.new ≡ lines_of lines.old ++ spec.target_lines targets.now }
 {
     if sole_target(targets).is_none() {
-        tell_each_target(teller, targets.as_slice());
+        push_each_target(lines, targets.as_slice());
     }
 }
 
-fn tell_each_target<T: LineTeller>(teller: &mut T, targets: &[Target])
-    ensures told { T.tells teller.new → T.tells teller.old }
-    ensures lines { T.tells teller.new
-        → T.lines teller.new ≡ T.lines teller.old ++ map target_line targets.now }
+fn push_each_target(lines: &mut Lines, targets: &[Target])
+    ensures told { lines.new.is_full ≡ false → lines.old.is_full ≡ false }
+    ensures lines { lines.new.is_full ≡ false
+        → lines_of lines.new ≡ lines_of lines.old ++ map target_line targets.now }
 {
     for target in targets {
-        teller.tell(target_line(target).as_str().as_bytes());
+        lines.push(target_line(target).as_str().as_bytes());
     }
 }
 
-fn tell_record<T: LineTeller>(teller: &mut T, recording: &Option<Recording<'_>>)
+fn push_record(lines: &mut Lines, recording: &Option<Recording<'_>>)
     requires { IfSome recording.now (λ one. length one.file.now ≤ 256) }
-    ensures told { T.tells teller.new → T.tells teller.old }
-    ensures line { T.tells teller.new
-        → T.lines teller.new ≡ T.lines teller.old ++ spec.record_told recording.now ∷ [] }
+    ensures told { lines.new.is_full ≡ false → lines.old.is_full ≡ false }
+    ensures line { lines.new.is_full ≡ false
+        → lines_of lines.new ≡ lines_of lines.old ++ spec.record_told recording.now ∷ [] }
 {
     match recording {
-        Some(recording) => teller.tell(record_line(recording).as_str().as_bytes()),
-        None => teller.tell(no_record_line().as_bytes()),
+        Some(recording) => lines.push(record_line(recording).as_str().as_bytes()),
+        None => lines.push(no_record_line().as_bytes()),
     }
 }
 
-// Tells whom the night follows, and how it takes over from there; or what ends it.
-fn tell_end<T: LineTeller>(teller: &mut T, main: &Option<MainNight<'_>>, is_interruptible: bool)
+// Whom the night follows, and how it takes over from there; or what ends it.
+fn push_end(lines: &mut Lines, main: &Option<MainNight<'_>>, is_interruptible: bool)
     requires { IfSome main.now (λ one. length one.file.now ≤ 256) }
-    ensures told { T.tells teller.new → T.tells teller.old }
-    ensures lines { T.tells teller.new → T.lines teller.new
-        ≡ T.lines teller.old ++ spec.closing_lines main.now is_interruptible }
+    ensures told { lines.new.is_full ≡ false → lines.old.is_full ≡ false }
+    ensures lines { lines.new.is_full ≡ false
+        → lines_of lines.new ≡ lines_of lines.old ++ spec.closing_lines main.now is_interruptible }
 {
     match main {
         Some(main) => {
-            teller.tell(main_line(main).as_str().as_bytes());
-            teller.tell(take_line().as_bytes());
+            lines.push(main_line(main).as_str().as_bytes());
+            lines.push(take_line().as_bytes());
         }
-        None => teller.tell(ending_line(is_interruptible).as_bytes()),
+        None => lines.push(ending_line(is_interruptible).as_bytes()),
     }
 }

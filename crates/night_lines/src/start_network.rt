@@ -1,13 +1,14 @@
-ghost use Rattle.std.specs.Prelude.{◌≡◌, ◌++◌, filter_map, map};
+ghost use Rattle.std.specs.Prelude.{◌≡◌, ◌++◌, false, filter_map, map};
 ghost use Rattle.std.specs.List.{list_any};
 ghost use Rattle.std.specs.Option.{option_to_list};
 ghost use Rattle.network_tables.specs.Groups.{is_multicast};
+ghost use Rattle.night_lines.specs.Lines.{lines_of};
 ghost use Rattle.night_lines.specs.StartNetworks as spec;
 
+use crate::lines::Lines;
 use crate::night_source::{NightSource, NightSources};
 use crate::other_cards::other_cards_line;
 use crate::sources::{OriginLine, no_route_line, origin_line};
-use crate::teller::LineTeller;
 use arrayvec::ArrayVec;
 use link_notices::MOST_SOURCES;
 use network_tables::{Cards, is_multicast};
@@ -61,24 +62,24 @@ fn any_multicast(paths: &[Path]) -> bool
     paths.iter().any(|path| is_multicast(path.host))
 }
 
-// Tells by which cards and routes packets leave, and which other cards there are.
-pub(crate) fn tell_network<T: LineTeller>(teller: &mut T, network: &StartNetwork<'_>)
-    ensures told { T.tells teller.new → T.tells teller.old }
-    ensures lines { T.tells teller.new
-        → T.lines teller.new ≡ T.lines teller.old ++ spec.network_lines network.now }
+// By which cards and routes packets leave, and which other cards there are.
+pub(crate) fn push_network(lines: &mut Lines, network: &StartNetwork<'_>)
+    ensures told { lines.new.is_full ≡ false → lines.old.is_full ≡ false }
+    ensures lines { lines.new.is_full ≡ false
+        → lines_of lines.new ≡ lines_of lines.old ++ spec.network_lines network.now }
 {
-    tell_sources(teller, network.sources.as_slice(), network.is_named);
-    tell_other_cards(teller, network);
-    tell_missing_routes(teller, network.paths);
+    push_sources(lines, network.sources.as_slice(), network.is_named);
+    push_other_cards(lines, network);
+    push_missing_routes(lines, network.paths);
 }
 
-fn tell_sources<T: LineTeller>(teller: &mut T, sources: &[NightSource], is_named: bool)
-    ensures told { T.tells teller.new → T.tells teller.old }
-    ensures lines { T.tells teller.new
-        → T.lines teller.new ≡ T.lines teller.old ++ map (spec.origin_told is_named) sources.now }
+fn push_sources(lines: &mut Lines, sources: &[NightSource], is_named: bool)
+    ensures told { lines.new.is_full ≡ false → lines.old.is_full ≡ false }
+    ensures lines { lines.new.is_full ≡ false
+        → lines_of lines.new ≡ lines_of lines.old ++ map (spec.origin_told is_named) sources.now }
 {
     for source in sources {
-        teller.tell(origin_told(source, is_named).as_str().as_bytes());
+        lines.push(origin_told(source, is_named).as_str().as_bytes());
     }
 }
 
@@ -92,17 +93,17 @@ fn origin_told(source: &NightSource, is_named: bool) -> OriginLine
     }
 }
 
-fn tell_other_cards<T: LineTeller>(teller: &mut T, network: &StartNetwork<'_>)
-    ensures told { T.tells teller.new → T.tells teller.old }
-    ensures lines { T.tells teller.new
-        → T.lines teller.new ≡ T.lines teller.old ++ spec.card_lines network.now }
+fn push_other_cards(lines: &mut Lines, network: &StartNetwork<'_>)
+    ensures told { lines.new.is_full ≡ false → lines.old.is_full ≡ false }
+    ensures lines { lines.new.is_full ≡ false
+        → lines_of lines.new ≡ lines_of lines.old ++ spec.card_lines network.now }
 {
     if !are_cards_told(network.paths, network.is_named) {
         return;
     }
     let addresses = addresses(network.sources);
     if let Some(line) = other_cards_line(network.cards, addresses.as_slice()) {
-        teller.tell(line.as_str().as_bytes());
+        lines.push(line.as_str().as_bytes());
     }
 }
 
@@ -116,22 +117,22 @@ fn addresses(sources: &NightSources) -> ArrayVec<[u8; 4], MOST_SOURCES>
     addresses
 }
 
-fn tell_missing_routes<T: LineTeller>(teller: &mut T, paths: &[Path])
-    ensures told { T.tells teller.new → T.tells teller.old }
-    ensures lines { T.tells teller.new
-        → T.lines teller.new ≡ T.lines teller.old ++ filter_map spec.no_route_told paths.now }
+fn push_missing_routes(lines: &mut Lines, paths: &[Path])
+    ensures told { lines.new.is_full ≡ false → lines.old.is_full ≡ false }
+    ensures lines { lines.new.is_full ≡ false
+        → lines_of lines.new ≡ lines_of lines.old ++ filter_map spec.no_route_told paths.now }
 {
     for path in paths {
-        tell_missing_route(teller, path);
+        push_missing_route(lines, path);
     }
 }
 
-fn tell_missing_route<T: LineTeller>(teller: &mut T, path: &Path)
-    ensures told { T.tells teller.new → T.tells teller.old }
-    ensures line { T.tells teller.new → T.lines teller.new
-        ≡ T.lines teller.old ++ option_to_list (spec.no_route_told path.now) }
+fn push_missing_route(lines: &mut Lines, path: &Path)
+    ensures told { lines.new.is_full ≡ false → lines.old.is_full ≡ false }
+    ensures line { lines.new.is_full ≡ false
+        → lines_of lines.new ≡ lines_of lines.old ++ option_to_list (spec.no_route_told path.now) }
 {
     if path.is_without_route() {
-        teller.tell(no_route_line(path.host).as_str().as_bytes());
+        lines.push(no_route_line(path.host).as_str().as_bytes());
     }
 }

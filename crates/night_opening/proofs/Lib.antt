@@ -2,4 +2,3 @@ pub mod Fitting
 pub mod MachineNames
 pub mod RecordLines
 pub mod Starting
-pub mod SuitableShows

@@ -3,14 +3,9 @@ pub mod Fits
 pub mod Heads
 pub mod Interrupts
 pub mod LiveNames
-pub mod MemoryLook
-pub mod MemoryRecord
 pub mod MissingLocks
 pub mod NightStarts
 pub mod Opening
 pub mod OtherRecords
-pub mod RecordStart
 pub mod Recordings
 pub mod RefusedCards
-pub mod Standard
-pub mod Texts

@@ -1,5 +1,5 @@
 -- What is told of the locks that a night lacks.
-use Rattle.std.specs.Prelude.{ℕ, Bool, true, false, List, [], ◌∷◌, ◌++◌, Option, Some, None, codes}
+use Rattle.std.specs.Prelude.{ℕ, Bool, true, false, List, [], ◌∷◌, Option, Some, codes}
 use Rattle.remarks.specs.Devices.{no_lock}
 
 -- that of its CID
@@ -14,7 +14,3 @@ no_record_lock = codes "record: no lock can be made, so a second night in this F
 abbrev pub missing_record_lock : Option Bool → List (List ℕ)
 missing_record_lock (Some false) = no_record_lock ∷ []
 missing_record_lock _ = []
-
-abbrev pub missing_locks : Bool → Option Bool → List (List ℕ)
-missing_locks has_cid_lock has_record_lock =
-    missing_cid_lock has_cid_lock ++ missing_record_lock has_record_lock

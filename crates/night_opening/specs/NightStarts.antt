@@ -11,10 +11,8 @@ use Rattle.cmd_faults.specs.declared.fault.RunFault.{RunFault}
 use Rattle.cmd_faults.specs.declared.fault.RunFault.TheVariants as run
 use Rattle.cmd_words.specs.Source.{source_name}
 use Rattle.cmd_words.specs.declared.job.Night.{Night}
-use Rattle.night_lines.specs.Lookups.{IsNetworkFound}
 use Rattle.night_lines.specs.declared.follow.MainNight.{MainNight}
 use Rattle.night_lines.specs.declared.found_network.FoundNetwork.{FoundNetwork}
-use Rattle.night_lines.specs.declared.lookup.LookupStep.{LookupStep}
 use Rattle.night_lines.specs.declared.record.Recording.{Recording}
 use Rattle.night_lines.specs.declared.sends.Transmission.{Transmission}
 use Rattle.night_lines.specs.declared.start.NightStart.{NightStart}
@@ -121,16 +119,13 @@ pub record IsShowAtStart (text : List ℕ) (base : ℕ) (show : Tables) (weight 
   pub weighs : IsWeightOf text (lines_read desk_limits text) show weight
 
 -- WHAT A NIGHT TELLS AT ITS START: what its show has, as it is read from its text, and what is sent
--- of it, by its words; the network as it is looked up; where it is recorded, whom it follows, and
--- what ends it
-pub record IsStartOf (night : NightAtStart) (start : NightStart) (steps : List LookupStep)
+-- of it, by its words; the network as it was found; where it is recorded, whom it follows, and what
+-- ends it
+pub record IsStartOf (night : NightAtStart) (found : FoundNetwork) (start : NightStart)
     : Type 0 where
   pub show : Tables
   pub weight : Weight
-  pub found : FoundNetwork
   pub of_text : IsShowAtStart night.show.now night.night.now.base show weight
-  pub looked_up : IsNetworkFound (is_some night.night.now.interface) night.sources.now
-      night.paths.now found steps
   pub told : IsStartWith night show (lines_skipped desk_limits night.show.now) weight.notes found
       start
 

@@ -2,7 +2,7 @@
 use Rattle.std.specs.Prelude.{◌≡◌, ℕ, List}
 use Rattle.network_tables.specs.declared.table.Card.{Card}
 use Rattle.packet_paths.specs.RefusedRoutes.{RouteRefusal}
-use Rattle.packet_paths.specs.declared.asked_cards.NamedRefusal.{NamedRefusal}
+use Rattle.packet_paths.specs.declared.named_refusal.NamedRefusal.{NamedRefusal}
 use Rattle.remarks.specs.Cards.{of_card, of_route}
 use Rattle.remarks.specs.declared.card.DownCards.{DownCards}
 use Rattle.remarks.specs.declared.failure.JobFault.{JobFault}

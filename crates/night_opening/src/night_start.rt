@@ -1,9 +1,7 @@
-ghost use Rattle.std.specs.Prelude.{◌≡◌, ◌≤◌, ◌<◌, ◌^◌, ◌++◌, List, length, option_map};
-ghost use Rattle.std.specs.Prelude.{IfErr, IfOk, IfSome, OnErr, OnOk};
-ghost use Rattle.night_lines.specs.Lookups.{IsNetworkFound};
+ghost use Rattle.std.specs.Prelude.{◌≡◌, ◌≤◌, length, option_map};
+ghost use Rattle.std.specs.Prelude.{IfErr, IfOk, IfSome};
+ghost use Rattle.night_lines.specs.Lines.{lines_of};
 ghost use Rattle.night_lines.specs.Starts.{start_lines};
-ghost use Rattle.night_lines.specs.declared.found_network.FoundNetwork.{FoundNetwork as Found};
-ghost use Rattle.night_lines.specs.declared.lookup.LookupStep.{LookupStep};
 ghost use Rattle.night_lines.specs.declared.start.NightStart.{NightStart as StartOf};
 ghost use Rattle.night_opening.specs.NightStarts as spec;
 ghost use Rattle.night_opening.specs.NightStarts.{AreShownTexts, IsShowAtStart, IsShownMain};
@@ -11,21 +9,20 @@ ghost use Rattle.night_opening.specs.NightStarts.{IsShownRecord, IsStartOf, IsSt
 ghost use Rattle.night_opening.specs.NightStarts.{IsTransmissionOf, IsUntold};
 ghost use Rattle.show_line.specs.Said.{desk_limits};
 ghost use Rattle.show_reader.specs.Reading.{lines_skipped};
-ghost use Rattle.std.specs.Option.{is_some};
 
 use arrayvec::ArrayVec;
 use cmd_explain::{Weight, seems, weigh};
 use cmd_faults::RunFault;
 use cmd_words::{Night, source_name};
 use night_lines::{
-    FoundNetwork, LineTeller, MainNight, NetworkLookup, NightStart, Recording, StartNetwork,
-    StartShow, Transmission, find_network, tell_start,
+    FoundNetwork, Lines, MainNight, NightStart, Recording, StartNetwork, StartShow, Transmission,
+    start_lines,
 };
-use packet_paths::{Path, Source};
+use packet_paths::Path;
 use patch_core::has_numbers;
 use remarks::{NameText, of_name, seeming_line};
 use show_reader::{Loaded, read_show};
-use std::alloc::Global;
+use std::alloc::{AllocError, Global};
 
 /// What is known of a night as it starts.
 #[derive(Clone, Copy)]
@@ -33,8 +30,6 @@ pub struct NightAtStart<'a> {
     pub night: &'a Night,
     /// The text of its show.
     pub show: &'a [u8],
-    /// The addresses that its packets come from.
-    pub sources: &'a [Source],
     /// The ways to the hosts that they go to.
     pub paths: &'a [Path],
     /// Where it is recorded, if it is.
@@ -45,30 +40,27 @@ pub struct NightAtStart<'a> {
     pub is_interruptible: bool,
 }
 
-/// Tells what a night plays, where it is sent, where it is recorded, whom it follows and what ends
-/// it. What is told of the network is looked up.
+/// The lines of what a night plays, where it is sent, where it is recorded, whom it follows and
+/// what ends it, with what was found of its network.
 ///
 /// # Errors
 ///
-/// `Show`, `Base` or `Memory`. Then nothing is looked up, and nothing told.
-pub fn tell_night_start<L: NetworkLookup, T: LineTeller>(
+/// `Show`, `Base` or `Memory`.
+pub fn night_start_lines(
     alloc: Global,
     night: &NightAtStart<'_>,
-    lookup: &mut L,
-    teller: &mut T,
-) -> Result<(), RunFault>
-    ensures asked { L.tells lookup.new → L.tells lookup.old }
-    ensures told { T.tells teller.new → T.tells teller.old }
-    ensures start { OnOk result ((start : StartOf) × (steps : List LookupStep)
-        × IsStartOf night.now start steps
-        × (L.tells lookup.new → L.steps lookup.new ≡ L.steps lookup.old ++ steps)
-        × (T.tells teller.new → T.lines teller.new ≡ T.lines teller.old ++ start_lines start)) }
+    found: &FoundNetwork,
+) -> Result<Lines, RunFault>
+    ensures start { IfOk result (λ lines. (start : StartOf) × IsStartOf night.now found.now start
+        × (lines_of lines ≡ start_lines start)) }
     ensures fault { IfErr result (λ fault. IsUntold night.now fault) }
-    ensures untold { OnErr result ((lookup.new ≡ lookup.old) × (teller.new ≡ teller.old)) }
 {
     let known = known_show(alloc, night)?;
-    tell_known(night, &known, lookup, teller);
-    Ok(())
+    let shown = shown_texts(night, &known.loaded);
+    match start_lines(alloc, &night_start(night, &known, found, &shown)) {
+        Ok(lines) => Ok(lines),
+        Err(AllocError) => Err(RunFault::Memory),
+    }
 }
 
 // A show that was read, and how many notes of weight there are on it.
@@ -91,29 +83,6 @@ fn known_show(alloc: Global, night: &NightAtStart<'_>) -> Result<KnownShow, RunF
     }
     let weight = weigh(alloc, night.show, &loaded)?;
     Ok(KnownShow { loaded, weight })
-}
-
-// Looks the network up, and tells this of a show that was read.
-fn tell_known<L: NetworkLookup, T: LineTeller>(
-    night: &NightAtStart<'_>,
-    known: &KnownShow,
-    lookup: &mut L,
-    teller: &mut T,
-)
-    ensures asked { L.tells lookup.new → L.tells lookup.old }
-    ensures told { T.tells teller.new → T.tells teller.old }
-    ensures start { (found : Found) × (start : StartOf) × (steps : List LookupStep)
-        × IsNetworkFound (is_some night.now.night.now.interface) night.now.sources.now
-        night.now.paths.now found steps
-        × IsStartWith night.now known.now.loaded.show known.now.loaded.skipped
-        known.now.weight.notes found start
-        × (L.tells lookup.new → L.steps lookup.new ≡ L.steps lookup.old ++ steps)
-        × (T.tells teller.new → T.lines teller.new ≡ T.lines teller.old ++ start_lines start) }
-{
-    let is_named = night.night.interface.is_some();
-    let found = find_network(lookup, night.sources, night.paths, is_named);
-    let shown = shown_texts(night, &known.loaded);
-    tell_start(teller, &night_start(night, known, &found, &shown));
 }
 
 // What the lines of a start borrow.

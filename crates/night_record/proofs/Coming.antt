@@ -10,7 +10,7 @@ use Rattle.std.proofs.lemmas.List.{length-take, length-take-le, take_min}
 use Rattle.memchr.specs.Find.{NoneBefore, Nowhere, Passes, is_byte}
 use Rattle.ascii_text.specs.Lines.{Cut, cut_of}
 use Rattle.night_record.specs.WholeLines.{front_of, line_fronts, whole_length, whole_lines}
-use Rattle.night_record.specs.Coming.{HasLooked, KeepsPart, StandsFor, part_to_keep}
+use Rattle.night_record.specs.Coming.{AsksBehind, KeepsPart, StandsFor, part_to_keep}
 use Rattle.night_record.specs.Coming.{bytes_given, unseen_bytes}
 use Rattle.night_record.specs.declared.lines.NightLines.{NightLines}
 use Rattle.night_record.proofs.Ends.{around, no_newline, none_before}
@@ -158,37 +158,11 @@ keeps_long old new none h long text given small s =
     subst (λ b. StandsFor new (cond b (whole_lines text) text) given) (sym is)
     (h text given small s)
 
--- at the front of a block
-pub from_front : (block : List ℕ) (seen came : ℕ) → seen ≡ 0
-    → slice_range block seen came ≡ take came block
-from_front block seen came none =
-    let all : came - 0 ≡ came = omega arith in
-    ap (λ n. take (came - n) (drop n block)) none ∙ ap (λ n. take n block) all
-
--- bytes of a record came
-pub has_looked : (is_file : Bool) (old mid new : NightLines) (more record_text : List ℕ)
-    → KeepsPart is_file old mid → unseen_bytes mid ≡ [] → mid.seen ≡ 0 → unseen_bytes new ≡ more
-    → more ≡ take new.came (drop mid.place record_text)
-    → new.line ≡ mid.line → new.place ≡ mid.place → new.seen ≡ mid.seen
-    → bytes_given new ≡ bytes_given mid → HasLooked is_file old new more record_text
-has_looked is_file old mid new more record_text h none front unseen bytes line place seen taken
-    text given few s =
+-- the next bytes are asked for behind what counts
+pub asks_behind : (is_file : Bool) (old new : NightLines) → KeepsPart is_file old new
+    → unseen_bytes new ≡ [] → new.seen ≡ 0 → AsksBehind is_file old new new.place
+asks_behind is_file old new h none front text given few s =
     let m = h text given few s in
-    let kept = part_to_keep is_file text in
-    let all : kept ≡ m.looked_at = m.came
+    let all : part_to_keep is_file text ≡ m.looked_at = m.came
     ∙ (ap (λ u. m.looked_at ++ u) none ∙ append-nil m.looked_at) in
-    let at : mid.place ≡ length kept = omega (arith, m.place, front, ap length all) in
-    let rest = drop mid.place record_text in
-    let some : take new.came rest ≡ take (length more) rest
-    = sym (ap (λ n. take n rest) (ap length bytes ∙ length-take new.came rest)
-    ∙ take_min new.came rest) in (
-      bytes ∙ (some ∙ ap (λ n. take (length more) (drop n record_text)) at),
-      record {
-        looked_at = m.looked_at;
-        came = ap (λ t. t ++ more) all ∙ ap (λ u. m.looked_at ++ u) (sym unseen);
-        gave = m.gave;
-        begun = ap (λ l. l.items) line ∙ m.begun;
-        place = omega (arith, place, seen, m.place);
-        taken = taken ∙ m.taken;
-      },
-    )
+    (m, omega (arith, m.place, front, ap length all))

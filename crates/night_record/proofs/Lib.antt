@@ -5,4 +5,3 @@ mod Heads
 mod Rows
 mod ReadBack
 mod HeadRows
-mod HeadSteps

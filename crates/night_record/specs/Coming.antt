@@ -52,10 +52,10 @@ abbrev pub KeepsPart : Bool → NightLines → NightLines → Type 0
 KeepsPart is_file old new = (text : List ℕ) (given : List (List ℕ)) → length text < 2 ^ 64
     → StandsFor old text given → StandsFor new (part_to_keep is_file text) given
 
--- whatever came before, these bytes came behind what of it counts, and they stand there in the
--- record
-abbrev pub HasLooked : Bool → NightLines → NightLines → List ℕ → List ℕ → Type 0
-HasLooked is_file old new more record_text = (text : List ℕ) (given : List (List ℕ))
+-- whatever came before, that of it counts, and the next bytes are to be those that stand behind so
+-- many bytes of the record
+abbrev pub AsksBehind : Bool → NightLines → NightLines → ℕ → Type 0
+AsksBehind is_file old new place = (text : List ℕ) (given : List (List ℕ))
     → length text < 2 ^ 64 → StandsFor old text given
-    → (more ≡ take (length more) (drop (length (part_to_keep is_file text)) record_text))
-    × StandsFor new (part_to_keep is_file text ++ more) given
+    → StandsFor new (part_to_keep is_file text) given
+    × (place ≡ length (part_to_keep is_file text))

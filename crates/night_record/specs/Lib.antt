@@ -9,8 +9,6 @@ pub mod Head
 pub mod Difference
 pub mod Reading
 pub mod Moments
-pub mod HeadWait
 pub mod RecordKinds
 pub mod RecordLines
 pub mod NightOpening
-pub mod MemoryLines

@@ -1,9 +1,8 @@
 //! The record of a night, as text: how its bytes part in lines as they come, and what a night does
 //! by what stands in it.
 //!
-//! [`NightLines`] parts what comes, of a record that another process writes ([`Growth`]) or of
-//! what is typed, in lines; [`RecordLines`] numbers those of a record, and [`RecordKind`] says how
-//! one is opened and read. [`RecordOpening`] says whether a night begins in a record or goes on
+//! [`NightLines`] parts what comes, of a record that another process writes or of what is typed, in
+//! lines, and [`RecordKind`] says how such a record is opened and read. [`RecordOpening`] says whether a night begins in a record or goes on
 //! behind it, and what of it is kept; [`own_head`] and [`main_head`] whether it may be taken up or
 //! followed; [`Asked`] what is typed meanwhile; and [`is_silent`] when a main is followed no more.
 //!
@@ -24,41 +23,34 @@
 //!
 //! ```
 //! let mut lines = NightLines::new();
-//! lines.look(&mut record)?;
+//! lines.take_up(b"0 tick\n25 t");
 //! while let Some(line) = lines.next_line() { .. }
 //! ```
 #![tactic(auto)]
 
 mod asked;
 mod difference;
-mod growth;
 mod head;
 mod head_lines;
-mod head_wait;
 mod lines;
-pub mod memory;
 mod moment;
 mod night_opening;
 mod opening;
 mod read;
 mod record_kind;
-mod record_lines;
 mod silence;
 mod typed_input;
 mod unfit;
 
 pub use asked::Asked;
 pub use difference::Difference;
-pub use growth::Growth;
 pub use head::{HeadLines, HeadName, RecordHead};
 pub use head_lines::{FirstLines, first_lines, head_in, kept_line};
-pub use head_wait::{ComingLines, LOOK_TURN, LineStep, head_within};
 pub use lines::{LineFront, NightLines};
 pub use moment::{line_moment, where_moment};
 pub use night_opening::NightOpening;
 pub use opening::{RecordOpening, TakenUp};
 pub use record_kind::{RecordKind, RecordRead, count_of_failed_read};
-pub use record_lines::RecordLines;
 pub use silence::{Lead, is_silent, silence_of};
 pub use typed_input::input_has_ended;
 pub use unfit::{Unfit, UnfitMain, main_head, main_lines, own_head, own_lines};

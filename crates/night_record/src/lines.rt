@@ -1,11 +1,9 @@
 ghost use Rattle.std.specs.Prelude.{◌≡◌, ◌≤◌, ◌+◌, ◌++◌, length, take};
 
-use crate::growth::Growth;
 use arrayvec::ArrayVec;
 use devices::LinkFault;
 use live_machine::{Came, MachineInput};
 use memchr::memchr;
-use std::io::ErrorKind;
 
 /// The first bytes of a line: one more than a line of a night may have, so that a longer one is
 /// seen.
@@ -31,12 +29,12 @@ pub struct NightLines {
 
 impl NightLines {
     ghost use Rattle.std.specs.Prelude.{◌<◌, ◌∷◌, ◌^◌, ℕ, List, [], true, false, Ok};
-    ghost use Rattle.std.specs.Prelude.{IfSome, IsNone, IfOk, OnErr, OnOk, IsOk};
+    ghost use Rattle.std.specs.Prelude.{IfSome, IsNone, IsSome, IfOk, None, OnErr};
     ghost use Rattle.std.specs.List.{list_any};
     ghost use Rattle.ascii_text.specs.Text.{is_newline};
     ghost use Rattle.live_machine.specs.Input.{brought_by, fault};
     ghost use Rattle.live_machine.specs.declared.input.Came.TheVariants.{Nothing};
-    ghost use Rattle.night_record.specs.Coming.{HasLooked, KeepsPart, StandsFor, StandsForMore};
+    ghost use Rattle.night_record.specs.Coming.{AsksBehind, KeepsPart, StandsFor, StandsForMore};
     ghost use Rattle.night_record.specs.Coming.{rest_in, bytes_given, typed_bytes, unseen_bytes};
     ghost use Rattle.night_record.specs.WholeLines.{line_fronts, whole_lines};
 
@@ -141,34 +139,33 @@ impl NightLines {
         }
     }
 
-    /// Looks if more came of a record that another process writes. A file is read again behind the
-    /// lines that were given, since a night that goes on in it cuts off a part of a line; but not
-    /// where a line is too long to be one of a night. Where bytes came that were not looked at, it
-    /// does nothing.
-    ///
-    /// # Errors
-    ///
-    /// The system's reason where the record cannot be read.
-    pub fn look<G: Growth>(&mut self, written: &mut G) -> Result<(), ErrorKind>
-        ensures told { G.tells written.new → G.tells written.old }
+    /// Makes room for what came since of a record that another process writes, and returns behind
+    /// how many of its bytes that stands: of a file behind the lines that were given, since a night
+    /// that goes on in it cuts off a part of a line; but not where a line is too long to be one of
+    /// a night. `None` where bytes came that were not looked at.
+    pub fn next_place(&mut self, is_file: bool) -> Option<u64>
         ensures first { 1 ≤ length (unseen_bytes self.old)
-            → IsOk result × (self.new ≡ self.old) × (written.new ≡ written.old) }
-        ensures ok { OnOk result (unseen_bytes self.old ≡ [] → G.tells written.new
-            → HasLooked (G.is_file written.old) self.old self.new (G.latest written.new)
-            (G.text written.new)) }
-        ensures err { OnErr result (KeepsPart (G.is_file written.old) self.old self.new) }
+            → (result ≡ None) × (self.new ≡ self.old) }
+        ensures room { IsSome result → unseen_bytes self.new ≡ [] }
+        ensures place { IfSome result (λ place. AsksBehind is_file self.old self.new place) }
     {
         if self.seen < self.came {
-            return Ok(());
+            return None;
         }
-        self.make_room(written.is_file());
-        match written.read(self.place, &mut self.block) {
-            Ok(count) => {
-                self.came = count;
-                Ok(())
-            }
-            Err(kind) => Err(kind),
-        }
+        self.make_room(is_file);
+        Some(self.place)
+    }
+
+    /// Takes up the next bytes, at most 4,096, for which there is room.
+    pub fn take_up(&mut self, bytes: &[u8])
+        requires room { unseen_bytes self.old ≡ [] }
+        requires few { length bytes.now ≤ 4096 }
+        ensures more { StandsForMore self.old bytes.now self.new }
+        ensures unseen { unseen_bytes self.new ≡ bytes.now }
+    {
+        self.begin_block();
+        fill_front(&mut self.block, bytes);
+        self.came = bytes.len();
     }
 
     // The next bytes come to the front of the block: of a file those behind the whole lines.
@@ -224,6 +221,14 @@ impl NightLines {
         self.came = 0;
         self.seen = 0;
     }
+}
+
+// Puts bytes to the front of a block.
+fn fill_front(block: &mut [u8; 4096], bytes: &[u8])
+    requires { length bytes.now ≤ 4096 }
+    ensures { take (length bytes.now) block.new ≡ bytes.now }
+{
+    block[..bytes.len()].copy_from_slice(bytes);
 }
 
 // Puts bytes behind others, as far as there is room.

@@ -1,7 +1,11 @@
 -- Which path a packet has.
-use Rattle.std.specs.Prelude.{ℕ, Bool, true, false, ◌&&◌, List, [], ◌∷◌, ◌==◌, bytes_eq, nat_le}
-use Rattle.std.specs.Prelude.{Option, Some, None, slice_index, if◌then◌else◌}
+use Rattle.std.specs.Prelude.{ℕ, Bool, true, false, ◌&&◌, List, [], ◌∷◌, ◌==◌, bytes_eq}
+use Rattle.std.specs.Prelude.{Option, Some, None, option_map, slice_get, slice_index}
+use Rattle.std.specs.Prelude.{if◌then◌else◌}
 use Rattle.std.specs.List.{position}
+use Rattle.link_notices.specs.Told.{is_first_route}
+use Rattle.link_notices.specs.declared.notice.LinkNotice.{LinkNotice}
+use Rattle.link_notices.specs.declared.notice.LinkNotice.TheVariants as notice
 use Rattle.link_notices.specs.declared.look.HostPath.{HostPath}
 use Rattle.link_notices.specs.declared.path.PathState.{PathState}
 use Rattle.link_notices.specs.declared.path.PathState.TheVariants.{Leads, Nowhere}
@@ -51,3 +55,10 @@ state_of_path (Some path) = path.state
 abbrev pub is_nowhere : PathState → Bool
 is_nowhere Nowhere = true
 is_nowhere state = false
+
+-- the host of a notice that a route leads there for the first time
+abbrev pub host_to_route : List Path → LinkNotice → Option (List ℕ)
+host_to_route paths (notice.Source place news) = None
+host_to_route paths (notice.Path place news) =
+    if is_first_route news.was news.is
+    then option_map (λ path. path.host) (slice_get paths place) else None

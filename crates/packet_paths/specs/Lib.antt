@@ -1,15 +1,8 @@
 pub mod Hosts
-pub mod NetworkSteps
-pub mod KeptSteps
-pub mod NetworkLooks
-pub mod NetworkOpens
-pub mod PathLooks
+pub mod Neighbors
 pub mod Routes
 pub mod Takers
 pub mod Sockets
 pub mod Sends
-pub mod SocketCalls
-pub mod AskedCards
 pub mod RefusedRoutes
-pub mod RoutedNotices
 pub mod SocketAddresses

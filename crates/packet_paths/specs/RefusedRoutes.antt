@@ -1,20 +1,14 @@
 -- Which network refuses a night.
-use Rattle.std.specs.Prelude.{◌≡◌, ℕ, Bool, List, Result, Ok, Err, Option, Some, None, codes}
+use Rattle.std.specs.Prelude.{ℕ, Bool, List, Option, Some, None, codes}
 use Rattle.std.specs.Prelude.{option_and_then, option_map}
 use Rattle.std.specs.List.{find}
 use Rattle.std.specs.Option.{is_some}
 use Rattle.link_notices.specs.Paths.{refused_card}
-use Rattle.packet_paths.specs.NetworkOpens.{IsNotOpen, IsOpen}
-use Rattle.packet_paths.specs.NetworkSteps.{NetworkStep}
 use Rattle.packet_paths.specs.Sends.{source_at}
-use Rattle.packet_paths.specs.declared.night_paths.Leaving.{Leaving}
 use Rattle.packet_paths.specs.declared.night_paths.NightPaths.{NightPaths}
 use Rattle.packet_paths.specs.declared.night_paths.Source.{Source}
 use Rattle.packet_paths.specs.declared.path.Path.{Path}
-use Rattle.packet_paths.specs.declared.refused_route.NetworkRefusal.{NetworkRefusal}
-use Rattle.packet_paths.specs.declared.refused_route.NetworkRefusal.TheVariants as refusal
 use Rattle.packet_paths.specs.declared.refused_route.RefusedRoute.{RefusedRoute}
-use Rattle.targets.specs.declared.target.Target.{Target}
 
 -- a route that refuses a night: to this host, by another card than this one
 pub record RouteRefusal : Type 0 where
@@ -52,14 +46,3 @@ refused_route night =
     let is_named = is_some night.leaving.source in
     option_and_then (path_refusal night.sources.items is_named)
     (refused_path is_named night.paths.items)
-
--- A NIGHT'S NETWORK is opened, and only then it is looked whether a route refuses the night
-abbrev pub IsNightOpen : Leaving → List Target → Result NightPaths NetworkRefusal
-    → List NetworkStep → Type 0
-IsNightOpen leaving targets (Ok night) steps =
-    IsOpen leaving targets night steps × (refused_route night ≡ None)
-IsNightOpen leaving targets (Err (refusal.Socket fault)) steps =
-    IsNotOpen leaving targets fault steps
-IsNightOpen leaving targets (Err (refusal.Route refused)) steps = (night : NightPaths)
-    × IsOpen leaving targets night steps
-    × (refused_route night ≡ Some (refusal_seen refused))

@@ -7,7 +7,6 @@ use Rattle.std.specs.declared.net.ipv4_addr.Ipv4Addr.{Ipv4Addr}
 use Rattle.std.specs.declared.net.socket_addr.SocketAddr.{SocketAddr}
 use Rattle.packet_paths.specs.declared.night_socket.NightSocket.{NightSocket}
 use Rattle.packet_paths.specs.declared.night_socket.NightSocket.TheVariants as socket
-use Rattle.targets.specs.declared.address.Address.{Address}
 
 -- an address of IPv4, as a socket of IPv6 takes it: ::ffff:a.b.c.d
 abbrev pub IsMapped : List ℕ → IpAddr → Type 0

@@ -1,5 +1,5 @@
 -- Who takes the packets of a path first.
-use Rattle.std.specs.Prelude.{ℕ, Bool, true, false, ◌||◌, not, List, [], ◌∷◌, bytes_eq, nat_lt}
+use Rattle.std.specs.Prelude.{ℕ, Bool, true, false, ◌||◌, not, List, bytes_eq, nat_lt}
 use Rattle.std.specs.Prelude.{◌==◌, codes, slice_index, unwrap_or}
 use Rattle.std.specs.Prelude.{Option, Some, None, if◌then◌else◌}
 use Rattle.std.specs.Option.{is_some}
@@ -7,9 +7,6 @@ use Rattle.arrayvec.specs.declared.array_string.ArrayString.{ArrayString}
 use Rattle.network_tables.specs.declared.route.Route.{Route}
 use Rattle.network_tables.specs.Neighbors.{silence_toward}
 use Rattle.packet_paths.specs.declared.path.Path.{Path}
-use Rattle.packet_paths.specs.NetworkSteps.{NetworkStep}
-use Rattle.packet_paths.specs.NetworkSteps.NetworkStep.{Ask}
-use Rattle.packet_paths.specs.declared.system.Question.TheVariants as question
 
 -- it is asked for where it is not known, or does not answer
 abbrev pub asks_taker : Path → Bool
@@ -39,27 +36,6 @@ is_taken_here host address = bytes_eq address host || (slice_index address 0 == 
 abbrev pub first_taker : List ℕ → Option Route → Option (List ℕ)
 first_taker host None = None
 first_taker host (Some route) = Some (unwrap_or route.gateway host)
-
--- who takes those first that come from an address, by the route of the main table to their host;
--- that is asked for where this machine does not take them itself
-abbrev pub taker_by : List ℕ → List ℕ → Option Route → Option (List ℕ)
-taker_by host address table =
-    if is_taken_here host address then None else first_taker host table
-
-abbrev pub table_questions : List ℕ → List ℕ → Option Route → List NetworkStep
-table_questions host address table =
-    if is_taken_here host address then [] else Ask (question.Route host table) ∷ []
-
--- a path after a look along a route, by the main table, and what is asked then
-abbrev pub toward : Option (List ℕ) → Path → Option Route → Path
-toward None path table = path
-toward (Some address) path table =
-    if asks_taker path then with_taker path (taker_by path.host address table) else path
-
-abbrev pub taker_questions : Option (List ℕ) → Path → Option Route → List NetworkStep
-taker_questions None path table = []
-taker_questions (Some address) path table =
-    if asks_taker path then table_questions path.host address table else []
 
 -- the card that packets come from: that of their address, where it is known; else the one that the
 -- route leads by; else nobody knows

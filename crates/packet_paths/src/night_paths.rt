@@ -1,26 +1,25 @@
-ghost use Rattle.std.specs.Prelude.{◌≡◌, ℕ, List, Option, ◌++◌, [], map, option_map, Result};
-ghost use Rattle.std.specs.declared.io.ErrorKind.{ErrorKind as Kind};
-ghost use Rattle.link_notices.specs.declared.sending.Sending.{Sending as SendingOf};
-ghost use Rattle.packet_paths.specs.NetworkSteps.{NetworkStep};
+ghost use Rattle.std.specs.Prelude.{◌≡◌, map, option_map};
 ghost use Rattle.packet_paths.specs.Hosts.{host_path};
-ghost use Rattle.packet_paths.specs.Sends.{IsLookTo, IsOffer, IsSent, address_and_card};
-ghost use Rattle.packet_paths.specs.Sends.{failure_after, packet_path, packet_sending};
-ghost use Rattle.packet_paths.specs.Sends.{packet_socket, path_at, path_of, path_source};
-ghost use Rattle.packet_paths.specs.Sends.{path_source_place, source_at, source_socket, with_path};
+ghost use Rattle.packet_paths.specs.Neighbors.{after_row};
+ghost use Rattle.packet_paths.specs.Sends.{address_and_card, failure_after, first_source};
+ghost use Rattle.packet_paths.specs.Sends.{packet_path, path_at, path_sending, path_socket};
+ghost use Rattle.packet_paths.specs.Sends.{path_source, path_source_place, source_at};
+ghost use Rattle.packet_paths.specs.Sends.{source_place, source_socket, with_path};
 
 use crate::hosts::{packet_place, path_place};
-use crate::network_system::NetworkSystem;
 use crate::night_socket::NightSocket;
 use crate::path::{Path, sending_of};
 use arrayvec::ArrayVec;
 use link_notices::{CardAddress, MOST_SOURCES, NetworkLook, Sending, SourceState};
-use network_tables::{CardName, is_multicast};
+use network_tables::{CardName, Neighbor, is_multicast};
 use std::io::ErrorKind;
 use targets::{Address, MOST_TARGETS};
 
-pub(crate) type Sources = ArrayVec<Source, MOST_SOURCES>;
+/// Addresses that packets come from, each once.
+pub type Sources = ArrayVec<Source, MOST_SOURCES>;
 
-pub(crate) type Paths = ArrayVec<Path, MOST_TARGETS>;
+/// The paths to the hosts that packets go to, each once.
+pub type Paths = ArrayVec<Path, MOST_TARGETS>;
 
 /// How packets leave this machine.
 #[derive(Clone, Copy, Debug)]
@@ -62,29 +61,26 @@ impl Source {
     }
 }
 
+/// How a packet is handed to the system: by which socket, and whether.
+#[derive(Clone, Copy, Debug)]
+pub struct PacketOffer {
+    pub socket: NightSocket,
+    pub sending: Sending,
+}
+
 /// By which addresses and paths the packets of a night leave this machine. The system holds its
 /// sockets: for each address one that is bound to it, so that its multicast leaves by the card of
 /// that and by no other.
 #[derive(Debug, Drop)]
 pub struct NightPaths {
     pub leaving: Leaving,
-    /// The addresses that packets come from, each once.
-    pub sources: ArrayVec<Source, MOST_SOURCES>,
-    /// The paths to the hosts that packets go to, each once.
-    pub paths: ArrayVec<Path, MOST_TARGETS>,
+    pub sources: Sources,
+    pub paths: Paths,
     /// Where the last packet that was lost went to, and the reason.
     pub failure: Option<(Address, ErrorKind)>,
 }
 
 impl NightPaths {
-    /// The source of a path, where there is one.
-    pub fn source_of(&self, path: &Path) -> Option<&Source>
-        ensures { option_map (λ source. source.now) result
-            ≡ source_at self.now.sources.items path.now.source }
-    {
-        self.sources.as_slice().get(path.source?)
-    }
-
     /// What is known of the addresses and the paths, as the last look found them.
     pub fn latest_look(&self) -> NetworkLook
         ensures sources { result.sources.items
@@ -101,51 +97,21 @@ impl NightPaths {
         found
     }
 
-    /// Sends a datagram: looks along the path to its host where that is due, and hands the packet
-    /// to the system by one of its sockets. It is not offered to another card than that of its
-    /// source, unless any will do; and what a card without a link takes is lost all the same.
-    ///
-    /// # Errors
-    ///
-    /// Why it is lost.
-    pub fn send<S: NetworkSystem>(
-        &mut self,
-        system: &mut S,
-        to: Address,
-        bytes: &[u8],
-    ) -> Result<(), ErrorKind>
-        ensures told { S.tells system.new → S.tells system.old }
-        ensures sent { (steps : List NetworkStep)
-            × IsSent to bytes.now self.old self.new result steps
-            × (S.tells system.new → S.steps system.new ≡ S.steps system.old ++ steps) }
+    /// The path of a packet to a host, which may be the group of a universe; `None` where it has
+    /// none.
+    pub fn packet_path(&self, host: [u8; 4]) -> Option<Path>
+        ensures { result ≡ packet_path self.now host }
     {
-        self.look_before(system, to.host);
-        let answer = self.offer(system, to, bytes);
-        self.failure = failure_after(self.failure, to, answer);
-        answer
+        let paths = self.paths.as_slice();
+        path_at(paths, packet_place(paths, host))
     }
 
-    // Looks along the path to a host, where that is due before a packet.
-    fn look_before<S: NetworkSystem>(&mut self, system: &mut S, host: [u8; 4])
-        ensures told { S.tells system.new → S.tells system.old }
-        ensures looks { (asked : List NetworkStep)
-            × IsLookTo (path_of self.old host) host self.old self.new asked
-            × (S.tells system.new → S.steps system.new ≡ S.steps system.old ++ asked) }
-    {
-        let place = path_place(self.paths.as_slice(), host);
-        let Some(mut path) = path_at(self.paths.as_slice(), place) else {
-            return;
-        };
-        let source = path_source(self.sources.as_slice(), &path);
-        path.look_before(system, source, self.leaving.is_any_route);
-        self.set_path(place, path);
-    }
-
-    fn set_path(&mut self, place: Option<usize>, path: Path)
-        ensures path { self.new.paths.items ≡ with_path place self.old.paths.items path }
+    /// Puts a path in the place of that to the same host.
+    pub fn set_path(&mut self, path: Path)
+        ensures path { self.new.paths.items ≡ with_path self.old.paths.items path }
         ensures same { self.new ≡ record self.old { paths = self.new.paths } }
     {
-        let Some(place) = place else {
+        let Some(place) = path_place(self.paths.as_slice(), path.host) else {
             return;
         };
         if let Some(slot) = self.paths.get_mut(place) {
@@ -153,38 +119,74 @@ impl NightPaths {
         }
     }
 
-    fn offer<S: NetworkSystem>(
-        &self,
-        system: &mut S,
-        to: Address,
-        bytes: &[u8],
-    ) -> Result<(), ErrorKind>
-        ensures told { S.tells system.new → S.tells system.old }
-        ensures offer { (sent : List NetworkStep)
-            × IsOffer (packet_sending self.now to.host) (packet_socket self.now to.host) to
-            bytes.now result sent
-            × (S.tells system.new → S.steps system.new ≡ S.steps system.old ++ sent) }
+    /// Decides how a packet to a host is handed to the system that has this path, if it has one: it
+    /// is not offered to another card than that of its source, unless any will do; and what a card
+    /// without a link takes is lost all the same.
+    pub fn offer_by(&self, path: Option<Path>, host: [u8; 4]) -> PacketOffer
+        ensures socket { result.socket ≡ path_socket self.now path host }
+        ensures sending { result.sending ≡ path_sending self.now path }
     {
-        let path = self.packet_path(to.host);
         let place = path_source_place(&path);
         let source = source_at(self.sources.as_slice(), place);
         let state = state_of(&source);
-        let socket = source_socket(place, &source, to.host);
-        match sending_of(path, state, self.leaving.is_any_route) {
-            Sending::Unbound | Sending::Bound => system.send(socket, to, bytes),
-            Sending::BoundAndLost(kind) => {
-                system.send(socket, to, bytes)?;
-                Err(kind)
-            }
-            Sending::Lost(kind) => Err(kind),
+        PacketOffer {
+            socket: source_socket(place, &source, host),
+            sending: sending_of(path, state, self.leaving.is_any_route),
         }
     }
 
-    fn packet_path(&self, host: [u8; 4]) -> Option<Path>
-        ensures { result ≡ packet_path self.now host }
+    /// Takes up the system's answer to a packet: where the last one that was lost went to, and why,
+    /// is known.
+    pub fn take_answer(&mut self, to: Address, answer: Result<(), ErrorKind>)
+        ensures { self.new
+            ≡ record self.old { failure = failure_after self.old.failure to answer } }
     {
-        let paths = self.paths.as_slice();
-        path_at(paths, packet_place(paths, host))
+        if let Err(kind) = answer {
+            self.failure = Some((to, kind));
+        }
+    }
+}
+
+/// The place of the source of an address, if it is one.
+pub fn source_place(sources: &[Source], address: [u8; 4]) -> Option<usize>
+    ensures { result ≡ source_place sources.now address }
+{
+    sources.iter().position(|source| source.address == address)
+}
+
+/// The source at a place, if there is one.
+pub fn source_at(sources: &[Source], place: Option<usize>) -> Option<Source>
+    ensures { result ≡ source_at sources.now place }
+{
+    sources.get(place?).copied()
+}
+
+/// From where the packets of a path come, if it has a source.
+pub fn path_source(sources: &[Source], path: &Path) -> Option<CardAddress>
+    ensures { result ≡ path_source sources.now path.now }
+{
+    match sources.get(path.source?) {
+        Some(source) => Some(source.card_address()),
+        None => None,
+    }
+}
+
+/// From where a new path is looked along: one to a multicast group is not.
+pub fn first_source(sources: &[Source], path: &Path) -> Option<CardAddress>
+    ensures { result ≡ first_source sources.now path.now }
+{
+    if is_multicast(path.host) {
+        return None;
+    }
+    path_source(sources, path)
+}
+
+/// Shows each path a row of the table of neighbors.
+pub fn show_row(paths: &mut [Path], row: &Neighbor)
+    ensures { paths.new ≡ map (after_row row.now) paths.old }
+{
+    for path in paths.iter_mut() {
+        path.take_row(row);
     }
 }
 
@@ -192,26 +194,6 @@ fn path_at(paths: &[Path], place: Option<usize>) -> Option<Path>
     ensures { result ≡ path_at paths.now place }
 {
     paths.get(place?).copied()
-}
-
-// The source at a place, if there is one.
-pub(crate) fn source_at(sources: &[Source], place: Option<usize>) -> Option<Source>
-    ensures { result ≡ source_at sources.now place }
-{
-    sources.get(place?).copied()
-}
-
-fn failure_after(
-    before: Option<(Address, ErrorKind)>,
-    to: Address,
-    answer: Result<(), ErrorKind>,
-) -> Option<(Address, ErrorKind)>
-    ensures { result ≡ failure_after before to answer }
-{
-    match answer {
-        Ok(()) => before,
-        Err(kind) => Some((to, kind)),
-    }
 }
 
 fn path_source_place(path: &Option<Path>) -> Option<usize>
@@ -241,15 +223,5 @@ fn source_socket(place: Option<usize>, source: &Option<Source>, host: [u8; 4]) -
         }
         (Some(place), Some(_)) => NightSocket::Bound(place),
         _ => NightSocket::Unbound,
-    }
-}
-
-// From where the packets of a path come.
-pub(crate) fn path_source(sources: &[Source], path: &Path) -> Option<CardAddress>
-    ensures { result ≡ path_source sources.now path.now }
-{
-    match sources.get(path.source?) {
-        Some(source) => Some(source.card_address()),
-        None => None,
     }
 }

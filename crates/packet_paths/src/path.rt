@@ -1,21 +1,12 @@
-ghost use Rattle.std.specs.Prelude.{◌≡◌, ℕ, ◌&&◌, ◌++◌, ◌∷◌, [], List, Option, not, false, true};
-ghost use Rattle.std.specs.Prelude.{IfSome, IfNone, OnSome};
+ghost use Rattle.std.specs.Prelude.{◌≡◌, ◌&&◌, not};
 ghost use Rattle.link_notices.specs.Offers.{offer_of};
-ghost use Rattle.network_tables.specs.Neighbors.{silence_by};
-ghost use Rattle.network_tables.specs.declared.route.Route.{Route as RouteOf};
 ghost use Rattle.network_tables.specs.Groups.{is_multicast};
 ghost use Rattle.packet_paths.specs.Hosts.{host_path, is_nowhere, new_path};
 ghost use Rattle.packet_paths.specs.Hosts.{state_of_path};
-ghost use Rattle.packet_paths.specs.Routes.{IsFound, IsLookBefore, card_questions, is_fresh};
-ghost use Rattle.packet_paths.specs.Routes.{if_of, known_card, look_source, with_route};
-ghost use Rattle.packet_paths.specs.Takers.{asks_taker, same_taker, table_questions, taker_by};
-ghost use Rattle.packet_paths.specs.Takers.{taker_questions, toward, with_taker};
-ghost use Rattle.packet_paths.specs.NetworkSteps.{NetworkStep};
-ghost use Rattle.packet_paths.specs.NetworkSteps.NetworkStep.{Ask};
-ghost use Rattle.packet_paths.specs.declared.system.Question.TheVariants as question;
+ghost use Rattle.packet_paths.specs.Neighbors.{after_row};
+ghost use Rattle.packet_paths.specs.Routes.{is_fresh, known_card, look_source, with_route};
+ghost use Rattle.packet_paths.specs.Takers.{asks_taker, same_taker, with_taker};
 
-use crate::system::RouteSystem;
-use crate::takers::{first_taker, is_taken_here};
 use link_notices::{CardAddress, HostPath, PathState, Sending, SourceState};
 use network_tables::{Neighbor, is_multicast, silence_toward};
 
@@ -86,89 +77,31 @@ impl Path {
 
     /// Takes up a row of the table of neighbors.
     pub fn take_row(&mut self, row: &Neighbor)
-        ensures { self.new ≡ record self.old {
-          silence = silence_by row.now self.old.neighbor self.old.has_link self.old.silence;
-        } }
+        ensures { self.new ≡ after_row row.now self.old }
     {
         self.silence = row.silence_of(self.neighbor, self.has_link, self.silence);
     }
 
-    /// Looks along the path, where its source can send, and it leads to no multicast group: which
-    /// address the route gives, who takes its packets first, and by which card it leads.
-    pub fn look<S: RouteSystem>(
-        &mut self,
-        system: &mut S,
-        source: CardAddress,
-        has_link: bool,
-        is_any_route: bool,
-    )
-        ensures told { S.tells system.new → S.tells system.old }
-        ensures waits { (has_link && not (is_multicast self.old.host)) ≡ false
-            → (self.new ≡ record self.old { has_link = has_link }) × (system.new ≡ system.old) }
-        ensures looks { (has_link && not (is_multicast self.old.host)) ≡ true
-            → (route : Option (List ℕ)) × (table : Option RouteOf)
-            × IsFound route source self.old.route self.new.route
-            × (self.new ≡ with_route (toward route (record self.old { has_link = has_link }) table)
-            self.new.route source is_any_route)
-            × (S.tells system.new → S.steps system.new ≡ S.steps system.old
-            ++ Ask (question.Source self.old.host route) ∷ taker_questions route self.old table
-            ++ card_questions self.old.host source self.old.route self.new.route) }
+    /// Takes up whether the card of its source has a link, and returns whether the path is looked
+    /// along then: a path without a link is not, nor one to a multicast group.
+    pub fn take_link(&mut self, has_link: bool) -> bool
+        ensures path { self.new ≡ record self.old { has_link = has_link } }
+        ensures looks { result ≡ (has_link && not (is_multicast self.old.host)) }
     {
         self.has_link = has_link;
-        if has_link && !is_multicast(self.host) {
-            let route = system.source_to(self.host);
-            self.look_along(system, source, route, is_any_route);
-        }
+        has_link && !is_multicast(self.host)
     }
 
-    /// Looks along the path where the route to its host gives this address, if there is one: who
-    /// takes its packets first, where that is not known or is silent; and by which card it leads.
-    pub fn look_along<S: RouteSystem>(
-        &mut self,
-        system: &mut S,
-        source: CardAddress,
-        route: Option<[u8; 4]>,
-        is_any_route: bool,
-    )
-        ensures told { S.tells system.new → S.tells system.old }
-        ensures found { IsFound route source self.old.route self.new.route }
-        ensures path { (table : Option RouteOf)
-            × (self.new ≡ with_route (toward route self.old table) self.new.route source
-            is_any_route)
-            × (S.tells system.new → S.steps system.new ≡ S.steps system.old
-            ++ taker_questions route self.old table
-            ++ card_questions self.old.host source self.old.route self.new.route) }
-    {
-        if let Some(address) = route
-            && self.asks_taker()
-        {
-            let taker = self.find_taker(system, address);
-            self.take_taker(taker);
-        }
-        self.look_for_card(system, source, route, is_any_route);
-    }
-
-    // Who takes the packets from this address first, by the main table.
-    fn find_taker<S: RouteSystem>(&self, system: &mut S, address: [u8; 4]) -> Option<[u8; 4]>
-        ensures told { S.tells system.new → S.tells system.old }
-        ensures taker { (table : Option RouteOf)
-            × (result ≡ taker_by self.now.host address table)
-            × (S.tells system.new → S.steps system.new
-            ≡ S.steps system.old ++ table_questions self.now.host address table) }
-    {
-        if is_taken_here(self.host, address) {
-            return None;
-        }
-        first_taker(self.host, system.route_to(self.host))
-    }
-
-    fn asks_taker(&self) -> bool
+    /// Whether it is to be asked who takes its packets first: where that is not known, or does not
+    /// answer.
+    pub fn asks_taker(&self) -> bool
         ensures { result ≡ asks_taker self.now }
     {
         self.neighbor.is_none() || self.silence > 0
     }
 
-    fn take_taker(&mut self, taker: Option<[u8; 4]>)
+    /// Takes up who takes its packets first. Another one counts as silent as the one before it.
+    pub fn take_taker(&mut self, taker: Option<[u8; 4]>)
         ensures { self.new ≡ with_taker self.old taker }
     {
         if !is_same_taker(self.neighbor, taker) {
@@ -177,90 +110,57 @@ impl Path {
         self.neighbor = taker;
     }
 
-    // Looks by which card the route to the host leads that gives this address.
-    fn look_for_card<S: RouteSystem>(
+    /// An address that the route to the host gives, with its card, where that is known: it is the
+    /// source's own, or that of the last look.
+    pub fn known_card(&self, address: [u8; 4], source: &CardAddress) -> Option<CardAddress>
+        ensures { result ≡ known_card address source.now self.now.route }
+    {
+        if source.address == address {
+            return Some(*source);
+        }
+        let last = self.route?;
+        let known = last.address;
+        if known == address { Some(last) } else { None }
+    }
+
+    /// Takes up the address that the route to the host gives, and its card, if there is a route:
+    /// so the path leads from this source, or does not.
+    pub fn take_route(
         &mut self,
-        system: &mut S,
+        route: Option<CardAddress>,
         source: CardAddress,
-        route: Option<[u8; 4]>,
         is_any_route: bool,
     )
-        ensures told { S.tells system.new → S.tells system.old }
-        ensures found { IsFound route source self.old.route self.new.route }
-        ensures path { self.new ≡ with_route self.old self.new.route source is_any_route }
-        ensures questions { S.tells system.new → S.steps system.new ≡ S.steps system.old
-            ++ card_questions self.old.host source self.old.route self.new.route }
+        ensures { self.new ≡ with_route self.old route source is_any_route }
     {
-        self.route = match route {
-            Some(address) => Some(self.card_of(system, &source, address)),
-            None => None,
-        };
+        self.route = route;
         self.state = PathState::of_route(self.route, source, is_any_route);
     }
 
-    // An address that the route to the host gives, with its card.
-    fn card_of<S: RouteSystem>(
+    /// The address from which the path is looked along before a packet, where it is. The multicast
+    /// of a bound socket needs no look, since it leaves by the card of its address; nor does a
+    /// packet for which any route will do, or which has no address to be sent from.
+    pub fn look_source(
         &self,
-        system: &mut S,
-        source: &CardAddress,
-        address: [u8; 4],
-    ) -> CardAddress
-        ensures told { S.tells system.new → S.tells system.old }
-        ensures address { result.address ≡ address }
-        ensures known { IfSome (known_card address source.now self.now.route)
-            (λ known. (result ≡ known) × (system.new ≡ system.old)) }
-        ensures asked { IfNone (known_card address source.now self.now.route)
-            (S.tells system.new → S.steps system.new ≡ S.steps system.old
-            ++ Ask (question.Card address self.now.host result.card) ∷ []) }
-    {
-        if let Some(known) = known_card(address, source, self.route) {
-            return known;
-        }
-        let card = system.card_to(address, self.host);
-        CardAddress { address, card }
-    }
-
-    /// Looks for the route to the host before a packet goes there, unless that was done just now.
-    /// The multicast of a bound socket needs no look, since it leaves by the card of its address;
-    /// nor does a packet for which any route will do, or which has no address to be sent from.
-    pub fn look_before<S: RouteSystem>(
-        &mut self,
-        system: &mut S,
         source: Option<CardAddress>,
         is_any_route: bool,
-    )
-        ensures told { S.tells system.new → S.tells system.old }
-        ensures waits { IfNone (look_source self.old.host source is_any_route)
-            ((self.new ≡ self.old) × (system.new ≡ system.old)) }
-        ensures looks { IfSome (look_source self.old.host source is_any_route) (λ source.
-            (time : Option ℕ) × (questions : List NetworkStep)
-            × IsLookBefore source self.old self.new time questions
-            × (S.tells system.new
-            → S.steps system.new ≡ S.steps system.old ++ questions)) }
+    ) -> Option<CardAddress>
+        ensures { result ≡ look_source self.now.host source is_any_route }
     {
-        match source {
-            Some(source) if !is_any_route && !is_multicast(self.host) => {
-                self.look_now(system, source);
-            }
-            _ => {}
+        if is_multicast(self.host) || is_any_route {
+            return None;
         }
+        source
     }
 
-    // Looks for the route to the host, unless the last look counts still.
-    fn look_now<S: RouteSystem>(&mut self, system: &mut S, source: CardAddress)
-        ensures told { S.tells system.new → S.tells system.old }
-        ensures looks { (time : Option ℕ) × (questions : List NetworkStep)
-            × IsLookBefore source self.old self.new time questions
-            × (S.tells system.new
-            → S.steps system.new ≡ S.steps system.old ++ questions) }
+    /// Whether the last look before a packet counts still at this time, in nanoseconds.
+    pub fn is_fresh(&self, now: Option<u64>) -> bool
+        ensures { result ≡ is_fresh self.now.look_time now }
     {
-        let now = system.time();
-        if is_fresh(self.look_time, now) {
-            return;
+        match (self.look_time, now) {
+            (Some(look), Some(now)) => now.saturating_sub(look) < FRESH,
+            _ => false,
         }
-        self.look_time = now;
-        let route = system.source_to(self.host);
-        self.look_for_card(system, source, route, false);
     }
 }
 
@@ -270,31 +170,6 @@ fn is_same_taker(left: Option<[u8; 4]>, right: Option<[u8; 4]>) -> bool
     match (left, right) {
         (None, None) => true,
         (Some(left), Some(right)) => left == right,
-        _ => false,
-    }
-}
-
-fn known_card(
-    address: [u8; 4],
-    source: &CardAddress,
-    last: Option<CardAddress>,
-) -> Option<CardAddress>
-    ensures { result ≡ known_card address source.now last }
-{
-    let own = source.address;
-    if own == address {
-        return Some(*source);
-    }
-    let last = last?;
-    let known = last.address;
-    if known == address { Some(last) } else { None }
-}
-
-fn is_fresh(look: Option<u64>, now: Option<u64>) -> bool
-    ensures { result ≡ is_fresh look now }
-{
-    match (look, now) {
-        (Some(look), Some(now)) => now.saturating_sub(look) < FRESH,
         _ => false,
     }
 }

@@ -1,16 +1,13 @@
-ghost use Rattle.std.specs.Prelude.{◌≡◌, ◌++◌, List, codes, option_map};
-ghost use Rattle.packet_paths.specs.NetworkSteps.{NetworkStep};
-ghost use Rattle.packet_paths.specs.RefusedRoutes.{IsNightOpen, card_told, path_refusal};
+ghost use Rattle.std.specs.Prelude.{◌≡◌, codes, option_map};
+ghost use Rattle.packet_paths.specs.RefusedRoutes.{card_told, path_refusal};
 ghost use Rattle.packet_paths.specs.RefusedRoutes.{refusal_seen, refused_path, refused_route};
 ghost use Rattle.link_notices.specs.Paths.{refused_card};
 ghost use Rattle.std.specs.Option.{is_some};
 
-use crate::network_system::NetworkSystem;
-use crate::night_paths::{Leaving, NightPaths, Source, source_at};
+use crate::night_paths::{NightPaths, Source, source_at};
 use crate::open_fault::OpenFault;
 use crate::path::Path;
 use network_tables::CardName;
-use targets::Targets;
 
 // In the place of a card's name.
 const NO_NAME: &str = "the card";
@@ -53,31 +50,6 @@ impl NightPaths {
         let card = card_told(&source_at(self.sources.as_slice(), path.source));
         let host = path.host;
         Some(RefusedRoute { host, card, other })
-    }
-
-    /// Opens the network of a night as [`NightPaths::open`] does, and then refuses it where a route
-    /// does.
-    ///
-    /// # Errors
-    ///
-    /// `Socket` where a socket cannot be had; `Route` where a route refuses the night.
-    pub fn open_unless_refused<S: NetworkSystem>(
-        system: &mut S,
-        targets: &Targets,
-        leaving: Leaving,
-    ) -> Result<NightPaths, NetworkRefusal>
-        ensures told { S.tells system.new → S.tells system.old }
-        ensures opened { (steps : List NetworkStep)
-            × IsNightOpen leaving targets.now result steps
-            × (S.tells system.new → S.steps system.new ≡ S.steps system.old ++ steps) }
-    {
-        match NightPaths::open(system, targets, leaving) {
-            Err(fault) => Err(NetworkRefusal::Socket(fault)),
-            Ok(night) => match night.refused_route() {
-                None => Ok(night),
-                Some(refused) => Err(NetworkRefusal::Route(refused)),
-            },
-        }
     }
 }
 

@@ -1,4 +1,3 @@
-mod allowed;
 mod allowed_job;
 mod command_line;
 mod desks;

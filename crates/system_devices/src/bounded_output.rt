@@ -1,15 +1,13 @@
-ghost use Rattle.std.specs.Prelude.{[], ⊤, false, None};
+ghost use Rattle.std.specs.Prelude.{[], false, None};
 
-use crate::descriptor_poll::{DescriptorPoll, open_poll};
+use crate::descriptor_poll::DescriptorPoll;
 use crate::fault::DeviceFault;
-use crate::way::{pipe_to_writer, written_file};
-use line_queue::{FilePipe, LineOutput, LineQueue, Notice, OutputWay, Pipe, WrittenFile};
+use crate::way::{kind_of, pipe_to_writer, written_file};
+use line_queue::{LineOutput, LineQueue, Notice, Pipe, WrittenFile};
 use mio::Interest;
 use std::fs::File;
 use std::io::{ErrorKind, Result as IoResult, Write};
 use std::os::fd::AsRawFd;
-use std::thread::sleep;
-use std::time::Duration;
 
 /// What an output is called, and what its lines are.
 #[derive(Clone, Copy)]
@@ -25,19 +23,34 @@ pub struct Names {
 /// An output that holds nobody up, and may be closed: lines in front of what the system writes.
 pub type BoundedOutput<W> = LineOutput<PolledWay<W>>;
 
-/// The way of an output, and the poll that says whether it takes bytes.
+/// The way of an output's bytes, into the output itself, or through a pipe to a process that writes
+/// its file and may wait for the disk; and the poll that says whether it takes bytes.
 #[derive(Drop)]
 pub struct PolledWay<W> {
-    way: OutputWay<W, File>,
+    output: W,
+    pipe: Option<File>,
     poll: DescriptorPoll,
 }
 
 impl<W: AsRawFd + Drop> PolledWay<W> {
     fn open(rt: &HostRuntime, output: W, variable: &str) -> IoResult<Self> {
         let pipe = pipe_to_writer(rt, &output, variable)?;
-        let way = OutputWay { output, pipe };
-        let poll = open_poll(rt, way.as_raw_fd(), Interest::WRITABLE)?;
-        Ok(PolledWay { way, poll })
+        let descriptor = match &pipe {
+            Some(pipe) => pipe.as_raw_fd(),
+            None => output.as_raw_fd(),
+        };
+        let poll = DescriptorPoll::open(rt, descriptor, Interest::WRITABLE)?;
+        Ok(PolledWay { output, pipe, poll })
+    }
+}
+
+impl<W: AsRawFd> PolledWay<W> {
+    /// The output's file, if another process writes it.
+    pub fn written_file(&self, rt: &HostRuntime) -> Option<WrittenFile> {
+        match &self.pipe {
+            Some(_) => written_file(rt, &self.output),
+            None => None,
+        }
     }
 }
 
@@ -53,25 +66,18 @@ impl<W: Write> Pipe for PolledWay<W> {
     } };
 
     fn takes_bytes(&mut self, milliseconds: u64) -> bool {
-        self.poll.is_known_ready(milliseconds)
+        self.poll.is_ready(milliseconds).unwrap_or(false)
     }
 
     fn write(&mut self, bytes: &[u8]) -> Result<usize, ErrorKind> {
-        self.way.write(bytes)
-    }
-}
-
-impl<W: Write + AsRawFd> FilePipe for PolledWay<W> {
-    type System = HostRuntime;
-
-    ghost shows = { λ _ _. ⊤ };
-
-    fn written_file(&self, rt: &HostRuntime) -> Option<WrittenFile> {
-        written_file(rt, self.way.piped_output()?)
-    }
-
-    fn wait_turn(rt: &HostRuntime) {
-        sleep(rt, Duration::from_millis(1));
+        let written = match &mut self.pipe {
+            Some(pipe) => pipe.write(bytes),
+            None => self.output.write(bytes),
+        };
+        match written {
+            Ok(count) => Ok(count),
+            Err(error) => Err(kind_of(error)),
+        }
     }
 }
 

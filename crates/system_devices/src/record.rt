@@ -1,115 +1,91 @@
-ghost use Rattle.std.specs.Prelude.{[]};
-
 use crate::bounded_output::{BoundedOutput, PolledWay};
 use crate::messages::Messages;
-use line_queue::{FilePipe, LineOutput, OutputLook, RecordKeeper, RecordOutputs, Writers};
+use crate::writers::{wait_for_writers, written_files};
+use line_queue::{LineOutput, OutputWatch, WrittenFiles, record_owed_line};
 use std::fs::File;
 
-/// Where the lines of a night are kept, if anywhere.
+/// Where the lines of a night are kept, if anywhere. Once it was told that the record failed,
+/// nothing more is done with it.
 #[derive(Drop)]
 pub struct Record {
-    lines: KeptLines,
-    keeper: RecordKeeper,
+    lines: BoundedOutput<File>,
+    // Its file before the night.
+    before: WrittenFiles,
+    // What was told of it.
+    watch: OutputWatch,
 }
 
 impl Record {
     /// No record.
     pub fn none() -> Self {
-        Record::of(LineOutput::nowhere(), 0)
-    }
-
-    // Lines behind so many bytes of a file.
-    pub(crate) fn of(output: BoundedOutput<File>, length: u64) -> Self {
         Record {
-            lines: KeptLines { output, length },
-            keeper: RecordKeeper::new(),
+            lines: LineOutput::nowhere(),
+            before: WrittenFiles {
+                output: None,
+                error: None,
+            },
+            watch: OutputWatch::default(),
         }
     }
 
-    /// Keeps a line as [`RecordKeeper::keep`] does.
+    // Lines behind what stands in a file.
+    pub(crate) fn behind(rt: &HostRuntime, lines: BoundedOutput<File>) -> Self {
+        let before = written_files(rt, &lines, &no_output());
+        Record {
+            lines,
+            before,
+            watch: OutputWatch::default(),
+        }
+    }
+
+    /// Keeps a line, or drops it. Where the record is late, is whole again, or cannot be written
+    /// any more, that is told.
     pub fn keep(&mut self, line: &[u8], messages: &mut Messages) {
-        keep(&mut self.keeper, &mut self.lines, messages, line);
+        self.put(line, false, messages);
     }
 
-    /// Keeps a line before the night begins, as [`RecordKeeper::copy`] does.
+    /// Keeps a line before the night begins: none is dropped as long as they are taken, and so that
+    /// may take time.
     pub fn copy(&mut self, line: &[u8], messages: &mut Messages) {
-        copy(&mut self.keeper, &mut self.lines, messages, line);
+        self.put(line, true, messages);
     }
 
-    /// Hands on what waits, at the end of the night, and waits for a writer.
+    fn put(&mut self, line: &[u8], may_wait: bool, messages: &mut Messages) {
+        if self.watch.has_failed {
+            return;
+        }
+        self.lines.put(line);
+        if may_wait && self.lines.is_late() {
+            self.lines.finish();
+        }
+        self.tell_news(messages);
+    }
+
+    /// Hands on what waits, at the end of the night, and waits for the writer of the record's file.
+    /// How many bytes that still owes, if any, is told.
     pub fn finish(&mut self, rt: &HostRuntime, messages: &mut Messages) {
-        finish(&mut self.keeper, &mut self.lines, messages, rt);
+        if self.watch.has_failed {
+            return;
+        }
+        self.lines.finish();
+        self.tell_news(messages);
+        if self.watch.has_failed {
+            return;
+        }
+        let left = wait_for_writers(rt, &self.lines, &no_output(), self.before);
+        if left > 0 {
+            messages.put(record_owed_line(left).as_str().as_bytes());
+        }
+    }
+
+    fn tell_news(&mut self, messages: &mut Messages) {
+        if let Some(notice) = self.watch.look(self.lines.look()) {
+            messages.put(notice.record_line().as_bytes());
+        }
     }
 }
 
-// The checker of borrows has no rule for a value that lends a field of `self` beside messages, so
-// each call is made where both have a name.
-fn keep(keeper: &mut RecordKeeper, lines: &mut KeptLines, messages: &mut Messages, line: &[u8]) {
-    keeper.keep(&mut NightRecord { lines, messages }, line);
-}
-
-fn copy(keeper: &mut RecordKeeper, lines: &mut KeptLines, messages: &mut Messages, line: &[u8]) {
-    keeper.copy(&mut NightRecord { lines, messages }, line);
-}
-
-fn finish(
-    keeper: &mut RecordKeeper,
-    lines: &mut KeptLines,
-    messages: &mut Messages,
-    rt: &HostRuntime,
-) {
-    keeper.finish(&mut NightRecord { lines, messages }, rt);
-}
-
-// The output of a record's lines, and how long its file was before.
-#[derive(Drop)]
-struct KeptLines {
-    output: BoundedOutput<File>,
-    length: u64,
-}
-
-// The lines of a record, and where it is told how that is. They do not tell what was done.
-#[derive(Drop)]
-struct NightRecord<'a> {
-    lines: &'a mut KeptLines,
-    messages: &'a mut Messages,
-}
-
-impl Writers for NightRecord<'_> {
-    type System = HostRuntime;
-
-    ghost tells = { λ _. ⊥ };
-
-    ghost deeds = { λ _. [] };
-
-    fn owed_bytes(&mut self, rt: &HostRuntime) -> u64 {
-        let length = self.lines.length;
-        self.lines.output.owed_bytes(length, rt)
-    }
-
-    fn wait_turn(&mut self, rt: &HostRuntime) {
-        PolledWay::<File>::wait_turn(rt);
-    }
-}
-
-impl RecordOutputs for NightRecord<'_> {
-    fn put_line(&mut self, line: &[u8]) {
-        self.lines.output.put(line);
-    }
-
-    fn are_lines_late(&mut self) -> bool {
-        self.lines.output.is_late()
-    }
-
-    fn finish_lines(&mut self) {
-        self.lines.output.finish();
-    }
-
-    fn look_at_lines(&mut self) -> OutputLook {
-        self.lines.output.look()
-    }
-
-    fn tell(&mut self, line: &[u8]) {
-        self.messages.put(line);
-    }
+// A record has one file.
+fn no_output() -> BoundedOutput<File> {
+    LineOutput::<PolledWay<File>>::nowhere()
 }

@@ -1,22 +1,14 @@
-ghost use Rattle.std.specs.Prelude.{[]};
-
 use crate::bounded_output::{Names, open_output};
+use crate::locked_file::{LockedFile, OpenedFile, Pause, found_file};
 use crate::record::Record;
-use crate::record_lock::{SystemLock, node_of};
-use arrayvec::ArrayString;
-use byte_reading::first_bytes;
+use crate::record_lock::{AskedLock, record_descriptor};
 use line_queue::Notice;
 use night_files::{
-    FileAccess, FileFault, FileLock, FileNode, FoundFile, LockRequest, NamedFile, RecordFault,
-    RecordSystem, RecordUse, ask_for_lock, is_cut_due, kept_length, open_record, process_in_list,
-    remove_if_unused, take_over_record,
+    FileFault, RecordFault, RecordUse, is_cut_due, is_unused, kept_length, lock_to_take_over,
+    unused_record,
 };
-use night_record::silence_of;
-use std::fmt::Write;
-use std::fs::{File, OpenOptions, metadata, remove_file};
-use std::io::Error;
-use std::os::unix::fs::FileTypeExt;
-use std::time::{Duration, Instant, SystemTime};
+use std::env;
+use std::fs::{File, remove_file};
 
 const NAMES: Names = Names {
     output: "the record",
@@ -27,27 +19,16 @@ const NAMES: Names = Names {
     },
 };
 
-// Where the system lists the locks that are held, and how much of that is read.
-const LOCKS: &str = "/proc/locks";
-
-const MOST_OF_LOCKS: usize = 1_048_576;
+// Names the record's file where it was made for this run, so that the writer could be given it.
+const MADE: &str = "CUEPLAYER_RECORD_MADE";
 
 /// The file of a record before a night begins or goes on in it. It is locked, and as it was.
 #[derive(Drop)]
 pub struct RecordFile {
-    file: File,
+    opened: OpenedFile,
     text: Vec<u8>,
     pause: Option<Pause>,
     has_lock: bool,
-}
-
-/// How long a record had not been written when it was read.
-#[derive(Clone, Copy)]
-pub struct Pause {
-    /// Until when: all that passes from then on passes by this clock, the time that it takes to
-    /// read a long record too.
-    pub until: Instant,
-    pub milliseconds: u64,
 }
 
 impl RecordFile {
@@ -58,7 +39,19 @@ impl RecordFile {
     ///
     /// As [`RecordFault`] lists them. The file is as it was then.
     pub fn open(rt: &HostRuntime, name: &str, resumes: bool) -> Result<Self, RecordFault> {
-        RecordFile::open_for(rt, name, RecordUse::of_night(resumes))
+        let opened = OpenedFile::open(rt, name, RecordUse::of_night(resumes))?;
+        let mut text = Vec::new(rt.alloc());
+        let mut pause = None;
+        if !opened.can_be_locked() {
+            return Ok(RecordFile::of(opened, text, pause, true));
+        }
+        let locked = LockedFile::look(rt, name, &opened, opened.lock_within_a_second(rt))?;
+        let has_lock = locked.has_lock();
+        if resumes {
+            pause = Some(locked.pause(rt)?);
+            text = locked.text(rt)?;
+        }
+        Ok(RecordFile::of(opened, text, pause, has_lock))
     }
 
     /// Opens the file of a night's record that another process keeps, without its lock.
@@ -67,23 +60,17 @@ impl RecordFile {
     ///
     /// As [`RecordFault`] lists them.
     pub fn watch(rt: &HostRuntime, name: &str) -> Result<Self, RecordFault> {
-        RecordFile::open_for(rt, name, RecordUse::Watch)
+        let opened = OpenedFile::open(rt, name, RecordUse::Watch)?;
+        Ok(RecordFile::of(opened, Vec::new(rt.alloc()), None, false))
     }
 
-    /// Removes the file of a record if no night began in it.
-    pub fn remove_if_unused(rt: &HostRuntime, name: &str) {
-        remove_if_unused(&mut RecordSteps::new(rt, name));
-    }
-
-    fn open_for(rt: &HostRuntime, name: &str, purpose: RecordUse) -> Result<Self, RecordFault> {
-        let mut steps = RecordSteps::new(rt, name);
-        let record = open_record(&mut steps, purpose)?;
-        Ok(RecordFile {
-            file: record.file,
-            text: steps.text,
-            pause: steps.pause,
-            has_lock: record.has_lock,
-        })
+    fn of(opened: OpenedFile, text: Vec<u8>, pause: Option<Pause>, has_lock: bool) -> Self {
+        RecordFile {
+            opened,
+            text,
+            pause,
+            has_lock,
+        }
     }
 
     /// Takes the lock of a watched file, unless the night of its record is still kept in it, by its
@@ -93,10 +80,14 @@ impl RecordFile {
     ///
     /// `NoLocks` where the file system has none; `File` as [`RecordFault`] lists it.
     pub fn take_over(&mut self, rt: &HostRuntime, name: &str) -> Result<bool, RecordFault> {
-        let mut steps = RecordSteps::new(rt, name);
-        self.has_lock = take_over_record(&mut steps, &self.file)?;
-        self.pause = steps.pause;
-        Ok(self.has_lock)
+        let lock = self.opened.lock_at_once(rt);
+        if !lock_to_take_over(lock.answer())? {
+            return Ok(false);
+        }
+        let pause = LockedFile::look(rt, name, &self.opened, lock)?.pause(rt)?;
+        self.pause = Some(pause);
+        self.has_lock = true;
+        Ok(true)
     }
 
     /// What stands in it, where a night resumes.
@@ -106,7 +97,7 @@ impl RecordFile {
 
     /// How many bytes stand in it; 0 where the system does not say.
     pub fn length(&self) -> u64 {
-        kept_length(found_file(&self.file))
+        kept_length(found_file(self.opened.file()))
     }
 
     /// How long it had not been written, where a night resumes.
@@ -127,121 +118,33 @@ impl RecordFile {
     /// As [`RecordFault`] lists them.
     pub fn keep_lines(self, rt: &HostRuntime, length: usize) -> Result<Record, RecordFault> {
         let kept = length as u64;
-        if is_cut_due(self.length(), kept) {
-            self.file.set_len(kept).map_err(FileFault::from)?;
+        let is_longer = is_cut_due(self.length(), kept);
+        let file = self.opened.into_file();
+        if is_longer {
+            file.set_len(kept).map_err(FileFault::from)?;
         }
-        let lines = open_output(rt, self.file, NAMES).map_err(RecordFault::Way)?;
-        Ok(Record::of(lines, kept))
+        let lines = open_output(rt, file, NAMES).map_err(RecordFault::Way)?;
+        Ok(Record::behind(rt, lines))
     }
 }
 
-// The name of a record's file, and what is read of it, for the steps towards it. It does not tell
-// them.
-#[derive(Drop)]
-struct RecordSteps<'a> {
-    rt: &'a HostRuntime,
-    name: &'a str,
-    text: Vec<u8>,
-    pause: Option<Pause>,
-}
-
-impl<'a> RecordSteps<'a> {
-    fn new(rt: &'a HostRuntime, name: &'a str) -> Self {
-        let text = Vec::new(rt.alloc());
-        let pause = None;
-        RecordSteps {
-            rt,
-            name,
-            text,
-            pause,
-        }
+/// Removes the file of a record if no night began in it: the one of this name, or the one that was
+/// made before this program was started.
+pub fn remove_unused_record(rt: &HostRuntime, given: Option<&str>) {
+    let made = env::var(rt, MADE).ok();
+    if let Some(name) = unused_record(given, made.as_deref()) {
+        remove_if_unused(rt, name);
     }
 }
 
-impl RecordSystem for RecordSteps<'_> {
-    type File = File;
-
-    ghost tells = { λ _. ⊥ };
-
-    ghost steps = { λ _. [] };
-
-    fn is_fifo(&mut self) -> bool {
-        metadata(self.rt, self.name).is_ok_and(|found| found.file_type().is_fifo())
+// Removes it if it can be read, this program has its lock then, and no byte stands in it.
+fn remove_if_unused(rt: &HostRuntime, name: &str) {
+    let Ok(file) = File::open(rt, name) else {
+        return;
+    };
+    let lock = AskedLock::at_once(record_descriptor(rt, &file));
+    let length = found_file(&file).ok().map(|found| found.length);
+    if is_unused(lock.answer(), length) {
+        let _ = remove_file(rt, name);
     }
-
-    fn open(&mut self, access: FileAccess) -> Result<File, FileFault> {
-        Ok(
-            OpenOptions::new()
-                .read(access.reads)
-                .write(access.writes)
-                .append(access.appends)
-                .create(access.creates)
-                .open(self.rt, self.name)?,
-        )
-    }
-
-    fn look(&mut self, file: &File) -> Result<FoundFile, FileFault> {
-        found_file(file)
-    }
-
-    fn lock(&mut self, file: &File) -> FileLock {
-        ask_for_lock(&mut SystemLock::of_record(self.rt, file))
-    }
-
-    fn lock_at_once(&mut self, file: &File) -> FileLock {
-        SystemLock::of_record(self.rt, file).ask()
-    }
-
-    fn listed_process(&mut self, node: FileNode) -> Option<u32> {
-        let mut list = File::open(self.rt, LOCKS).ok()?;
-        let list = first_bytes(self.rt.alloc(), &mut list, MOST_OF_LOCKS).ok()?;
-        process_in_list(self.rt.alloc(), list.as_slice(), node).ok()?
-    }
-
-    fn is_process(&mut self, process: u32) -> bool {
-        let mut path = ArrayString::<32>::new();
-        let _ = write!(path, "/proc/{process}");
-        metadata(self.rt, path.as_str()).is_ok()
-    }
-
-    fn look_again(&mut self, file: &File) -> Result<NamedFile, FileFault> {
-        let named = node_of(&metadata(self.rt, self.name)?);
-        let found = found_file(file)?;
-        Ok(NamedFile { named, found })
-    }
-
-    fn keep_pause(&mut self, file: &File) -> Result<(), FileFault> {
-        self.pause = Some(pause_of(self.rt, file)?);
-        Ok(())
-    }
-
-    fn keep_text(&mut self, file: &File) -> Result<(), FileFault> {
-        let mut reader = file;
-        self.text = first_bytes(self.rt.alloc(), &mut reader, usize::MAX)?;
-        Ok(())
-    }
-
-    fn remove(&mut self) {
-        let _ = remove_file(self.rt, self.name);
-    }
-}
-
-fn found_file(file: &File) -> Result<FoundFile, FileFault> {
-    let found = file.metadata()?;
-    Ok(FoundFile {
-        node: node_of(&found),
-        is_regular: found.is_file(),
-        length: found.len(),
-    })
-}
-
-// Where the system's clock ran back, nothing of it counts.
-fn pause_of(rt: &HostRuntime, file: &File) -> Result<Pause, Error> {
-    let written = file.metadata()?.modified()?;
-    let until = Instant::now(rt)?;
-    let passed = SystemTime::now(rt)?.duration_since(written);
-    Ok(Pause {
-        until,
-        milliseconds: silence_of(passed.unwrap_or(Duration::ZERO)),
-    })
 }

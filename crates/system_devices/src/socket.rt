@@ -1,9 +1,9 @@
-ghost use Rattle.std.specs.Prelude.{[]};
+ghost use Rattle.std.specs.Prelude.{◌≤◌, [], IfOk};
 
 use arrayvec::ArrayString;
 use devices::{Datagrams, LinkFault};
 use job_devices::JobSource;
-use packet_paths::{OpenFault, SocketCall, call_again, send_whole, socket_address};
+use packet_paths::{OpenFault, socket_address};
 use std::fmt::Write;
 use std::io::ErrorKind;
 use std::net::{Net, SocketAddr, UdpSocket};
@@ -60,8 +60,7 @@ impl ReceivingSocket {
 
 impl Datagrams for ReceivingSocket {
     fn receive(&mut self, buf: &mut [u8; 1500]) -> Result<usize, LinkFault> {
-        let socket = &self.inner;
-        match call_again(&mut DatagramReceipt { socket, buf }) {
+        match receive_datagram(&self.inner, buf) {
             Ok(count) => Ok(count),
             Err(kind) => {
                 self.failure = Some(kind);
@@ -79,66 +78,40 @@ impl JobSource for ReceivingSocket {
     }
 }
 
-// A receipt. It does not tell.
-#[derive(Drop)]
-struct DatagramReceipt<'a> {
-    socket: &'a UdpSocket,
-    buf: &'a mut [u8; 1500],
-}
-
-impl SocketCall for DatagramReceipt<'_> {
-    ghost tells = { λ _. ⊥ };
-
-    ghost answers = { λ _. [] };
-
-    ghost most = { λ _. 1500 };
-
-    // `recv` would not take an empty datagram off the socket.
-    fn call(&mut self) -> Result<usize, ErrorKind> {
-        match self.socket.recv_from(self.buf) {
-            Ok((count, _)) => Ok(count),
-            Err(error) => Err(error.kind()),
+// Receives a datagram. A call that a signal interrupts is made again: nothing was received.
+// `recv` would not take an empty datagram off the socket.
+fn receive_datagram(socket: &UdpSocket, buf: &mut [u8; 1500]) -> Result<usize, ErrorKind>
+    ensures { IfOk result (λ count. count ≤ 1500) }
+{
+    for _ in 0..u64::MAX {
+        match socket.recv_from(buf) {
+            Ok((count, _)) => return Ok(count),
+            Err(error) if error.kind() == ErrorKind::Interrupted => {}
+            Err(error) => return Err(error.kind()),
         }
     }
+    Err(ErrorKind::Interrupted)
 }
 
-// A send. It does not tell.
-#[derive(Drop)]
-struct DatagramSend<'a> {
-    socket: &'a UdpSocket,
-    bytes: &'a [u8],
-    address: SocketAddr,
-}
-
-impl SocketCall for DatagramSend<'_> {
-    ghost tells = { λ _. ⊥ };
-
-    ghost answers = { λ _. [] };
-
-    ghost most = { λ _. 18446744073709551615 };
-
-    fn call(&mut self) -> Result<usize, ErrorKind> {
-        let sent = self.socket.send_to(self.bytes, self.address);
-        sent.map_err(|error| error.kind())
-    }
-}
-
-/// Sends a datagram whole.
+/// Sends a datagram whole. A call that a signal interrupts is made again: nothing was sent.
 ///
 /// # Errors
 ///
-/// The system's reason.
+/// The system's reason; `WriteZero` where only a part was sent.
 pub fn send_datagram(
     socket: &UdpSocket,
     bytes: &[u8],
     address: SocketAddr,
 ) -> Result<(), ErrorKind> {
-    let mut send = DatagramSend {
-        socket,
-        bytes,
-        address,
-    };
-    send_whole(&mut send, bytes.len())
+    for _ in 0..u64::MAX {
+        match socket.send_to(bytes, address) {
+            Ok(count) if count == bytes.len() => return Ok(()),
+            Ok(_) => return Err(ErrorKind::WriteZero),
+            Err(error) if error.kind() == ErrorKind::Interrupted => {}
+            Err(error) => return Err(error.kind()),
+        }
+    }
+    Err(ErrorKind::Interrupted)
 }
 
 /// An address and its port: there is room for four numbers of three digits and one of five.

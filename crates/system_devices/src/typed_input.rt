@@ -1,6 +1,6 @@
 ghost use Rattle.std.specs.Prelude.{[]};
 
-use crate::descriptor_poll::{DescriptorPoll, open_poll};
+use crate::descriptor_poll::DescriptorPoll;
 use crate::fault::DeviceFault;
 use devices::LinkFault;
 use live_machine::{Came, MachineInput};
@@ -24,7 +24,7 @@ impl<'a> TypedInput<'a> {
     /// `Device` where standard input is closed or cannot be waited for; `Memory` if an allocation
     /// failed.
     pub fn open(rt: &'a HostRuntime) -> Result<Self, DeviceFault> {
-        match open_poll(rt, rt.stdin().as_raw_fd(), Interest::READABLE) {
+        match DescriptorPoll::open(rt, rt.stdin().as_raw_fd(), Interest::READABLE) {
             Ok(poll) => Ok(TypedInput { rt, poll }),
             Err(error) => Err(DeviceFault::of_system("standard input", error)),
         }

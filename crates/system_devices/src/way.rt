@@ -1,8 +1,7 @@
-ghost use Rattle.std.specs.Prelude.{[]};
-
 use arrayvec::ArrayString;
-use line_queue::{PipeVariable, WaySystem, WrittenFile, open_way};
+use line_queue::WrittenFile;
 use std::env;
+use std::env::VarError;
 use std::fmt::Write as _;
 use std::fs::{File, Metadata, OpenOptions, metadata};
 use std::io::{Error, ErrorKind, Result as IoResult};
@@ -30,75 +29,42 @@ pub fn pipe_to_writer<W: AsRawFd>(
     output: &W,
     variable: &str,
 ) -> Result<Option<File>, ErrorKind> {
-    let mut system = SystemWay {
-        rt,
-        output,
-        variable,
-        name: None,
-        both_ways: None,
-        pipe: None,
+    let name = match env::var(rt, variable) {
+        Ok(name) => name,
+        Err(VarError::OutOfMemory) => return Err(ErrorKind::OutOfMemory),
+        Err(_) => return Ok(None),
     };
-    open_way(&mut system)?;
-    Ok(system.pipe)
+    let found = metadata_of(rt, output).map_err(kind_of)?;
+    if !found.is_file() {
+        return Ok(None);
+    }
+    let both_ways = PipeBothWays::open(rt, name.as_str())?;
+    Ok(Some(both_ways.open_to_write(rt, name.as_str())?))
 }
 
-// An output whose way is opened, for the steps to that. It does not tell them.
+// A pipe that is open to read and to write, which waits for nobody.
 #[derive(Drop)]
-struct SystemWay<'a, W> {
-    rt: &'a HostRuntime,
-    output: &'a W,
-    variable: &'a str,
-    name: Option<String>,
-    both_ways: Option<File>,
-    pipe: Option<File>,
+struct PipeBothWays {
+    pipe: File,
 }
 
-impl<W> SystemWay<'_, W> {
-    fn pipe_name(&self) -> Result<&str, ErrorKind> {
-        match &self.name {
-            Some(name) => Ok(name.as_str()),
-            None => Err(ErrorKind::NotFound),
-        }
-    }
-}
-
-impl<W: AsRawFd> WaySystem for SystemWay<'_, W> {
-    ghost tells = { λ _. ⊥ };
-
-    ghost steps = { λ _. [] };
-
-    fn read_variable(&mut self) -> PipeVariable {
-        match env::var(self.rt, self.variable) {
-            Ok(name) => {
-                self.name = Some(name);
-                PipeVariable::NamesPipe
-            }
-            Err(error) => PipeVariable::of_error(error),
-        }
-    }
-
-    fn is_regular_file(&mut self) -> Result<bool, ErrorKind> {
-        let found = metadata_of(self.rt, self.output).map_err(kind_of)?;
-        Ok(found.is_file())
-    }
-
-    fn open_both_ways(&mut self) -> Result<(), ErrorKind> {
+impl PipeBothWays {
+    fn open(rt: &HostRuntime, name: &str) -> Result<Self, ErrorKind> {
         let pipe = OpenOptions::new()
             .read(true)
             .write(true)
-            .open(self.rt, self.pipe_name()?)
+            .open(rt, name)
             .map_err(kind_of)?;
-        self.both_ways = Some(pipe);
-        Ok(())
+        Ok(PipeBothWays { pipe })
     }
 
-    fn open_to_write(&mut self) -> Result<(), ErrorKind> {
-        let pipe = OpenOptions::new()
+    // Opens it to write alone, while it is open both ways: so this waits for no reader, and writes
+    // fail once the reader has gone.
+    fn open_to_write(&self, rt: &HostRuntime, name: &str) -> Result<File, ErrorKind> {
+        OpenOptions::new()
             .write(true)
-            .open(self.rt, self.pipe_name()?)
-            .map_err(kind_of)?;
-        self.pipe = Some(pipe);
-        Ok(())
+            .open(rt, name)
+            .map_err(kind_of)
     }
 }
 

@@ -1,16 +1,16 @@
-ghost use Rattle.std.specs.Prelude.{[], is_none};
+ghost use Rattle.std.specs.Prelude.{◌≤◌, IfOk};
 
-use crate::descriptor_poll::{DescriptorPoll, open_poll};
+use crate::descriptor_poll::DescriptorPoll;
 use crate::fault::DeviceFault;
 use crate::record_lock::is_same;
 use mio::Interest;
-use night_record::{Growth, RecordKind, RecordRead, count_of_failed_read};
+use night_record::{RecordKind, RecordRead, count_of_failed_read};
 use std::fs::{File, OpenOptions, metadata};
 use std::io::{Error, ErrorKind, Read};
 use std::os::fd::AsRawFd;
 use std::os::unix::fs::{FileExt, FileTypeExt};
 
-/// A record that another process writes. It does not tell what stands in it.
+/// A record that another process writes.
 #[derive(Drop)]
 pub struct WrittenRecord {
     file: File,
@@ -39,11 +39,16 @@ impl WrittenRecord {
         let fifo = match kind {
             RecordKind::File => None,
             RecordKind::Fifo => {
-                let poll = open_poll(rt, file.as_raw_fd(), Interest::READABLE);
+                let poll = DescriptorPoll::open(rt, file.as_raw_fd(), Interest::READABLE);
                 Some(poll.map_err(of_system)?)
             }
         };
         Ok(Some(WrittenRecord { file, kind, fifo }))
+    }
+
+    /// Whether what stands in it can be read again, as of a file.
+    pub fn is_file(&self) -> bool {
+        self.kind == RecordKind::File
     }
 
     /// Whether it is still there under its name, with the lines that were given of it: so many
@@ -55,22 +60,16 @@ impl WrittenRecord {
         let is_named = is_same(&named, &opened);
         self.kind.is_there(is_named, opened.len(), given)
     }
-}
 
-impl Growth for WrittenRecord {
-    ghost tells = { λ _. ⊥ };
-
-    ghost text = { λ _. [] };
-
-    ghost latest = { λ _. [] };
-
-    ghost is_file = { λ r. is_none r.fifo };
-
-    fn is_file(&self) -> bool {
-        self.fifo.is_none()
-    }
-
-    fn read(&mut self, place: u64, block: &mut [u8; 4096]) -> Result<usize, ErrorKind> {
+    /// Reads what stands behind so many bytes, as much as there is and fits, and writes it to the
+    /// front of the block: so many bytes. A FIFO gives what was not read.
+    ///
+    /// # Errors
+    ///
+    /// The system's reason where it cannot be read.
+    pub fn read(&mut self, place: u64, block: &mut [u8; 4096]) -> Result<usize, ErrorKind>
+        ensures within { IfOk result (λ count. count ≤ 4096) }
+    {
         let is_ready = match &mut self.fifo {
             Some(fifo) => fifo.is_ready(0).ok(),
             None => None,

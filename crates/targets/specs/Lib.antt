@@ -1,4 +1,5 @@
 pub mod Datagram
+pub mod Addressed
 pub mod Kept
 pub mod Address
 pub mod Choice

@@ -11,6 +11,7 @@
 #![tactic(auto)]
 
 mod address;
+mod laws;
 mod link;
 mod memory;
 mod misfit;
@@ -19,8 +20,9 @@ mod target;
 mod targets;
 
 pub use address::Address;
+pub use laws::addressed_law;
 pub use link::TargetLink;
-pub use memory::{MemoryDatagram, MemorySender};
+pub use memory::{MemoryOffer, MemorySender};
 pub use misfit::TargetMisfit;
 pub use sender::Sender;
 pub use target::{Target, Universes};

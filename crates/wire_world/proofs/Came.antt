@@ -24,46 +24,47 @@ use Rattle.wire_world.specs.Laws.{CidsDiffer, IsAlone, IsUnheard, NoStray, hande
 use Rattle.wire_world.specs.Laws.{accepted_from, ConsolesAreIndependent}
 use Rattle.sacn_receiver.specs.Source as source
 use Rattle.wire_world.proofs.Terms.{option_map_or, option_map, nat_tests, slice_get-get_or}
-use Rattle.wire_world.proofs.Terms.{same_Some, front_packet, Packet, Ignored, Event, Deliver, Stray}
+use Rattle.wire_world.proofs.Terms.{same_Some, front_packet, Packet, Ignored, Happening, Deliver, Stray}
 use Rattle.wire_world.proofs.Terms.{World, universe_at, console_at, no_console, IsWorld}
 use Rattle.wire_world.proofs.Terms.{packets_sent, datagram_to, accepted_by, nat_list_eq_equiv}
-use Rattle.wire_world.proofs.Terms.{All-cons, All-map, Production, Identity, packet_bytes, What}
+use Rattle.wire_world.proofs.Terms.{All-cons, All-map, Production, Identity, packet_bytes, Occurrence}
 use Rattle.wire_world.proofs.Wire.{IsSendable, entry, cid_is, entry_is, heard_here, unheard_there}
 use Rattle.wire_world.proofs.Wire.{unheard_left, sent_is, sent_stays}
 
 -- none of these was skipped after those before it
-abbrev pub IsRun : World → List Event → Type 0
+abbrev pub IsRun : World → List Happening → Type 0
 IsRun w [] = Unit {0}
 IsRun w (e ∷ past) = (skip_of w past e ≡ None) × IsRun w past
 
-one_runs : (w : World) (past : List Event) (e : Event) → IsRun w past → IsRun w (done_one w past e)
+one_runs : (w : World) (past : List Happening) (e : Happening) → IsRun w past
+    → IsRun w (done_one w past e)
 one_runs w past e run = cond_both (is_some (skip_of w past e)) _ _ (IsRun w) (λ _. run)
     (λ q. (grind (arith, nat_tests), run))
 
-more_runs : (w : World) (events past : List Event) → IsRun w past
+more_runs : (w : World) (events past : List Happening) → IsRun w past
     → IsRun w (fold (done_one w) past events)
 more_runs w [] past run = run
 more_runs w (e ∷ events) past run = more_runs w events (done_one w past e) (one_runs w past e run)
 
-pub done_runs : (w : World) (events : List Event) → IsRun w (events_done w events)
+pub done_runs : (w : World) (events : List Happening) → IsRun w (events_done w events)
 done_runs w events = more_runs w events [] tt
 
 -- what is not skipped
-pub record IsTimely (w : World) (past : List Event) (e : Event) : Type 0 where
+pub record IsTimely (w : World) (past : List Happening) (e : Happening) : Type 0 where
   pub after : last_event_moment past ≤ e.moment
   pub there : lack_skip w past e.what ≡ None
 
-pub timely : (w : World) (past : List Event) (e : Event) → skip_of w past e ≡ None
+pub timely : (w : World) (past : List Happening) (e : Happening) → skip_of w past e ≡ None
     → IsTimely w past e
 timely w past e s = record { after = grind (arith, nat_tests); there = grind (arith, nat_tests) }
 
 -- what is delivered was sent by a console that is there
-pub record IsDelivered (w : World) (past : List Event) (i u k : ℕ) : Type 0 where
+pub record IsDelivered (w : World) (past : List Happening) (i u k : ℕ) : Type 0 where
   pub there : i < length w.consoles
   pub packet : Packet
   pub is_sent : slice_get (packets_sent w i u past) k ≡ Some packet
 
-pub deliverer : (w : World) (past : List Event) (r i u k : ℕ)
+pub deliverer : (w : World) (past : List Happening) (r i u k : ℕ)
     → lack_skip w past (Deliver r i u k) ≡ None → IsDelivered w past i u k
 deliverer w past r i u k h = record {
   there = grind (arith, nat_tests);
@@ -82,7 +83,7 @@ hears_last u h t (Some d) l = go (ignore_reason 4 u h t d)
     go None = omega arith
     go (Some x) = l
 
-pub last_accepted : (w : World) (r : ℕ) (past : List Event) → IsRun w past
+pub last_accepted : (w : World) (r : ℕ) (past : List Happening) → IsRun w past
     → source.last_moment (accepted_by w r past) ≤ last_event_moment past
 last_accepted w r [] run = omega arith
 last_accepted w r (e ∷ past) run =
@@ -97,7 +98,7 @@ abbrev pub source_of : World → ℕ → Identity
 source_of w i = (console_at w i).source
 
 -- what a console has sent for the universe of a receiver
-abbrev pub ours : World → ℕ → ℕ → List Event → List Packet
+abbrev pub ours : World → ℕ → ℕ → List Happening → List Packet
 ours w r i past = packets_sent w i (universe_at w r) past
 
 -- the deliveries of one console
@@ -160,11 +161,11 @@ record Came (w : World) (r t : ℕ) (ps : ℕ → List Packet) (ds : ℕ → Lis
   from_is : (i : ℕ) → from i ≡ left w r (map (arrival w r i) (ds i))
 
 -- after these events
-abbrev CameAfter : World → ℕ → List Event → Type 0
+abbrev CameAfter : World → ℕ → List Happening → Type 0
 CameAfter w r past = Came w r (last_event_moment past) (λ j. ours w r j past)
     (λ i. deliveries w r i past) (accepted_by w r past) (λ i. accepted_from w r i past)
 
-module _ (w : World) (v : IsWorld w) (r : ℕ) (e : Event) (past : List Event)
+module _ (w : World) (v : IsWorld w) (r : ℕ) (e : Happening) (past : List Happening)
     (after : last_event_moment past ≤ e.moment) (n : CameAfter w r past) where
   -- what an event may leave: nothing
   nothing : (by : List Entry) (from : ℕ → List Entry) → by ≡ accepted_by w r past
@@ -220,7 +221,7 @@ module _ (w : World) (v : IsWorld w) (r : ℕ) (e : Event) (past : List Event)
             (arrival w r i d).datagram) (m.from_is i))) (λ q. rw q (m.from_is i));
       }
 
-  leaves : (x : What) → lack_skip w past x ≡ None → IsUnheard w r x
+  leaves : (x : Occurrence) → lack_skip w past x ≡ None → IsUnheard w r x
       → Came w r e.moment (λ j. ours w r j (e ∷ past))
       (λ i. delivered_by w r i past e.moment x (deliveries w r i past))
       (hears (universe_at w r) e.moment (datagram_to w r past x) (accepted_by w r past))
@@ -245,7 +246,7 @@ module _ (w : World) (v : IsWorld w) (r : ℕ) (e : Event) (past : List Event)
       (λ b. rw b (nothing _ _ refl (λ i. refl)))
   leaves _ m s = nothing _ _ refl (λ i. refl)
 
-came : (w : World) → IsWorld w → (r : ℕ) (past : List Event) → IsRun w past → NoStray w r past
+came : (w : World) → IsWorld w → (r : ℕ) (past : List Happening) → IsRun w past → NoStray w r past
     → CameAfter w r past
 came w v r [] run n = record {
   cs = [];
@@ -290,7 +291,7 @@ module _ {A : Type 0} (u : ℕ) (f : A → Arrival) (g : A → Entry) where
 
 -- ---- what came of one console, and of all
 
-module _ (w : World) (v : IsWorld w) (r : ℕ) (past : List Event) (run : IsRun w past)
+module _ (w : World) (v : IsWorld w) (r : ℕ) (past : List Happening) (run : IsRun w past)
     (no_stray : NoStray w r past) where
   n : CameAfter w r past
   n = came w v r past run no_stray

@@ -7,7 +7,7 @@ use Rattle.std.proofs.Common.{OnErr, map}
 use Rattle.std.proofs.lemmas.Bool.{eq-eqb, le-ltb, lt-ltb, ne_eqb, lt-leb, cases_lt}
 use Rattle.std.proofs.lemmas.Option.{slice_get_cases}
 use Rattle.sacn_receiver.specs.Kept.{ReceiverState, StandsFor}
-use Rattle.wire_world.specs.declared.event.What.TheVariants.{Tick}
+use Rattle.wire_world.specs.declared.happening.Occurrence.TheVariants.{Tick}
 use Rattle.wire_world.specs.declared.reply.Skip.TheVariants.{NotSent}
 use Rattle.wire_world.specs.Replies.{no_console_at, lack_skip, last_event_moment, no_receiver_at}
 use Rattle.wire_world.specs.Replies.{taken_reply, datagram_reply, skip_of, event_reply, done_one}
@@ -23,13 +23,13 @@ use Rattle.wire_world.specs.declared.reply.Reply.TheVariants as reply
 use Rattle.wire_world.proofs.Terms.{Production, option_map, option_map_or, result_err}
 use Rattle.wire_world.proofs.Terms.{slice_get_within, slice_get_read, get_or_from_slice_get}
 use Rattle.wire_world.proofs.Terms.{slice_get-get_or, same_Some, length-set, Refused, Call, Act}
-use Rattle.wire_world.proofs.Terms.{refusal, outcome, Event, Skip, World, console_at, universe_at}
+use Rattle.wire_world.proofs.Terms.{refusal, outcome, Happening, Skip, World, console_at, universe_at}
 use Rattle.wire_world.proofs.Terms.{no_console, IsIdentity, console_call, unless_refused, acts}
 use Rattle.wire_world.proofs.Terms.{bytes_of, datagram, packets_sent, datagram_to, accepted_by}
 use Rattle.wire_world.proofs.Terms.{Packet, Deliver, Order, Stray, Show, packet_bytes, AllHear}
 use Rattle.wire_world.proofs.Terms.{ConsolesStand, AllTell, AllAre, cast, HasOpened, world_of}
 use Rattle.wire_world.proofs.Terms.{SendersAreSources, HasReplayed, front_packet, Ignored, nat_tests}
-use Rattle.wire_world.proofs.Terms.{What, Reply, Tables, Setup, Start, Identity, Stage, StageStands}
+use Rattle.wire_world.proofs.Terms.{Occurrence, Reply, Tables, Setup, Start, Identity, Stage, StageStands}
 use Rattle.wire_world.proofs.Terms.{LinkTells, common_steps}
 use Rattle.wire_world.proofs.Wire.{source_of, played_in}
 use Rattle.wire_world.proofs.Came.{last_accepted, done_runs}
@@ -76,13 +76,13 @@ err_of None x = refl
 err_of (Some r) x = refl
 
 module _ {S : Type 0} {st : S → Production → List Act → Type 0} {stages : List S} {w : World}
-    {past : List Event} (all : ConsolesStand st stages w past) (k : ℕ) (was : S)
+    {past : List Happening} (all : ConsolesStand st stages w past) (k : ℕ) (was : S)
     (at : slice_get stages k ≡ Some was) where
   pub here : nat_lt k (length w.consoles) ≡ true
   here = lt-ltb k (length w.consoles) (omega (arith, slice_get_within stages k was at, all.each))
 
   -- what a call of console k leaves, from its clauses
-  pub stand_call : {A : Type 0} (is : S) (e : Event) (call : Call) (res : Result A Refused)
+  pub stand_call : {A : Type 0} (is : S) (e : Happening) (call : Call) (res : Result A Refused)
       → ((j : ℕ) → console_call j e.what ≡ (if nat_eq k j then Some call else None))
       → ((c : Production) (h : List Act) → st was c h → result_err res ≡ refusal c.show h
       (record { moment = e.moment; call = call }))
@@ -135,7 +135,7 @@ module _ {S : Type 0} (st : S → Production → List Act → Type 0) (tells : S
     (at : slice_get stages console ≡ Some was) (few : receiver < length receivers)
     (o : Option (List ℕ)) (found : (p : Production) (h : List Act) → st was p h → tells was
     → o ≡ bytes_of p h universe n)
-    (w : World) (past : List Event) (all : ConsolesStand st stages w past)
+    (w : World) (past : List Happening) (all : ConsolesStand st stages w past)
     (tell : AllTell tells stages) (hear : AllHear receivers w past) where
   pub looked_up : (nat_lt receiver (length w.receivers) ≡ true)
       × (o ≡ datagram w console universe n past)
@@ -160,7 +160,7 @@ always (Err e) P h = tt
 
 -- an event that is no call leaves the consoles
 pub stand_same : {S : Type 0} {st : S → Production → List Act → Type 0} {stages : List S}
-    {w : World} {past : List Event} (o : Option Skip) (e : Event)
+    {w : World} {past : List Happening} (o : Option Skip) (e : Happening)
     → ((j : ℕ) → console_call j e.what ≡ None) → ConsolesStand st stages w past
     → ConsolesStand st stages w (unless_skipped o e past)
 stand_same (Some x) e quiet all = all
@@ -171,7 +171,7 @@ stand_same None e quiet all = record {
 
 -- ---- one datagram at one of the receivers
 
-module _ {receivers : List ReceiverState} {w : World} {past : List Event}
+module _ {receivers : List ReceiverState} {w : World} {past : List Happening}
     (all : AllHear receivers w past) (k : ℕ) (was : ReceiverState)
     (at : slice_get receivers k ≡ Some was) where
   pub there : nat_lt k (length w.receivers) ≡ true
@@ -186,7 +186,8 @@ module _ {receivers : List ReceiverState} {w : World} {past : List Event}
       rw (there, ← all.universes k was at) (ap taken_reply (e _ (all.stand k was at)))
 
   -- what a datagram leaves of them
-  pub hear_set : (is : ReceiverState) (x : Event) (t : ℕ) (d : List ℕ) (res : Result Taken Ignored)
+  pub hear_set : (is : ReceiverState) (x : Happening) (t : ℕ) (d : List ℕ)
+      (res : Result Taken Ignored)
       → ((h : List source.Entry) → StandsFor was h → res ≡ answer 4 was.universe h t d)
       → OnOk res ((h : List source.Entry) → StandsFor was h
       → StandsFor is (accepted_entry t (front_packet d) ∷ h))
@@ -217,8 +218,9 @@ module _ {receivers : List ReceiverState} {w : World} {past : List Event}
       took (Some i) ok un = rw un stood
 
 -- an event that hands nothing over leaves the receivers
-pub hear_same : {receivers : List ReceiverState} {w : World} {past : List Event} (o : Option Skip)
-    (e : Event) → ((r : ℕ) → datagram_to w r past e.what ≡ None) → AllHear receivers w past
+pub hear_same : {receivers : List ReceiverState} {w : World} {past : List Happening}
+    (o : Option Skip)
+    (e : Happening) → ((r : ℕ) → datagram_to w r past e.what ≡ None) → AllHear receivers w past
     → AllHear receivers w (unless_skipped o e past)
 hear_same (Some x) e quiet all = all
 hear_same None e quiet all = record {
@@ -238,7 +240,7 @@ answered_no_skip : (o : Option Refused) (r : Reply) → is_skip r ≡ false
 answered_no_skip None r h = h
 answered_no_skip (Some x) r h = refl
 
-no_skip : (w : World) (past : List Event) (t : ℕ) (x : What)
+no_skip : (w : World) (past : List Happening) (t : ℕ) (x : Occurrence)
     → is_skip (event_reply w past t x) ≡ false
 no_skip w past t (Order i c) = answered_no_skip _ reply.Done refl
 no_skip w past t (Tick i) = answered_no_skip _ (reply.Ticked _ _) refl
@@ -247,8 +249,8 @@ no_skip w past t (Stray r from to) = taken_no_skip _
 no_skip w past t (Show r) = refl
 
 module _ {S : Type 0} {st : S → Production → List Act → Type 0} {tells : S → Type 0} where
-  module _ {stages : List S} {receivers : List ReceiverState} (w : World) (past : List Event)
-      (e : Event)
+  module _ {stages : List S} {receivers : List ReceiverState} (w : World) (past : List Happening)
+      (e : Happening)
     where
       -- an event that is skipped
       pub step_skipped : (s : Skip) (last : ℕ) → skip_of w past e ≡ Some s
@@ -332,7 +334,7 @@ module _ {S : Type 0} {st : S → Production → List Act → Type 0} {tells : S
   -- ---- what is replayed
 
   -- one event more
-  pub replayed_more : {w : World} {es : List Event} {i : ℕ} (d : Event) → i < length es
+  pub replayed_more : {w : World} {es : List Happening} {i : ℕ} (d : Happening) → i < length es
       → {stages : List S} {receivers : List ReceiverState} {was last : ℕ} {rs : List Reply}
       {r : Reply} {old : List S} {heard : List ReceiverState}
       → HasReplayed st tells old heard was rs w es i
@@ -360,7 +362,8 @@ module _ {S : Type 0} {st : S → Production → List Act → Type 0} {tells : S
 
   -- the receivers are not ahead of the last event
   pub early : {stages : List S} {receivers : List ReceiverState} {last : ℕ} {rs : List Reply}
-      {w : World} {es : List Event} {i : ℕ} → HasReplayed st tells stages receivers last rs w es i
+      {w : World} {es : List Happening} {i : ℕ}
+      → HasReplayed st tells stages receivers last rs w es i
       → AllBy receivers last
   early {w = w} {es = es} {i = i} all r k g =
       let by = last_accepted w r (events_done w (take i es)) (done_runs w (take i es)) in

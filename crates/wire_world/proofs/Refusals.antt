@@ -10,7 +10,7 @@ use Rattle.wire_world.specs.Refusing.{AnswersSetup, has_base, has_show, setup_fa
 use Rattle.wire_world.specs.Refusing.{stray_fits}
 use Rattle.wire_world.specs.Stands.{StrayFits}
 use Rattle.wire_world.proofs.Terms.{list_all, slice_get-get_or, All-cons, common_steps, nat_tests}
-use Rattle.wire_world.proofs.Terms.{Tables, Setup, IsWorld, no_console, Event, What, Stray}
+use Rattle.wire_world.proofs.Terms.{Tables, Setup, IsWorld, no_console, Happening, Occurrence, Stray}
 use Rattle.wire_world.proofs.Terms.{SendersAreSources, cast, world_of}
 
 -- a report is answered where there is no fault
@@ -68,11 +68,11 @@ fine_world shows setups universes strays none who = (
     blank = record { show = 0; base = 0; identity = no_console.source }
 
 -- what a stray is within
-within_one : (size : ℕ) (x : What) → stray_fits size x ≡ true → StrayFits size x
+within_one : (size : ℕ) (x : Occurrence) → stray_fits size x ≡ true → StrayFits size x
 within_one size (Stray receiver from to) h = (grind (arith, nat_tests), grind (arith, nat_tests))
 within_one size _ h = tt
 
-pub all_within : (size : ℕ) (events : List Event) → are_within size events ≡ true
+pub all_within : (size : ℕ) (events : List Happening) → are_within size events ≡ true
     → All (λ e. StrayFits size e.what) events
 all_within size events h = λ k d l. within_one size (get_or events k d).what
-    (AllPass-from_list_all (λ (e : Event). stray_fits size e.what) events h k d l)
+    (AllPass-from_list_all (λ (e : Happening). stray_fits size e.what) events h k d l)

@@ -3,6 +3,7 @@ use Rattle.std.proofs.Common.{◌≡◌, ℕ, zero, suc, ◌<◌, ◌≤◌, Lis
 use Rattle.std.proofs.Common.{take, replicate, length, refl, arith, inl, ap, ◌∙◌, ◌⊎◌}
 use Rattle.std.specs.Prelude.{IsFalse, ◌==◌, slice_index}
 use Rattle.desk_core.specs.declared.command.Command.TheVariants.{Go, Sub, End}
+use Rattle.desk_core.specs.declared.instruction.Instruction.TheVariants.{Plain}
 use Rattle.desk_core.specs.declared.answer.Ticked.TheVariants.{Live, Ending}
 use Rattle.desk_core.specs.declared.answer.Refused.TheVariants as refused
 use Rattle.desk_core.specs.Meaning.{dark}
@@ -10,9 +11,9 @@ use Rattle.sacn_source.specs.declared.offered.Offered.TheVariants.{Sent}
 use Rattle.sacn_receiver.specs.Source.{Entry}
 use Rattle.sacn_receiver.specs.Shown.{merged_slot, shown_slot}
 use Rattle.console.specs.Streams.{Production}
-use Rattle.wire_world.specs.declared.event.Event.{Event}
-use Rattle.wire_world.specs.declared.event.What.{What}
-use Rattle.wire_world.specs.declared.event.What.TheVariants.{Order, Tick, Deliver, Show}
+use Rattle.wire_world.specs.declared.happening.Happening.{Happening}
+use Rattle.wire_world.specs.declared.happening.Occurrence.{Occurrence}
+use Rattle.wire_world.specs.declared.happening.Occurrence.TheVariants.{Order, Tick, Deliver, Show}
 use Rattle.wire_world.specs.declared.reply.Skip.TheVariants as skip
 use Rattle.wire_world.specs.declared.reply.Reply.TheVariants.{Done, Refused, Ticked, Skipped}
 use Rattle.wire_world.specs.World.{World, IsConsole, IsWorld}
@@ -26,7 +27,7 @@ use Rattle.desk_core.proofs.Small.{small, cues, subs, numbers, based, first_at, 
 use Rattle.desk_core.proofs.Small.{frame_2000, frame_full, frame_half}
 use Rattle.desk_core.proofs.Small.{no_move, after_first, after_second}
 
-abbrev at : ℕ → What → Event
+abbrev at : ℕ → Occurrence → Happening
 at t x = record { moment = t; what = x }
 
 -- a console with this byte in each place of its CID
@@ -48,12 +49,12 @@ abbrev w : World
 w = record { consoles = console_of 7 100 ∷ []; receivers = 1 ∷ []; strays = [] }
 
 -- rehearse_basic, without its deliveries
-abbrev script : List Event
+abbrev script : List Happening
 script =
-    at 0 (Order 0 Go) ∷ at 1000 (Tick 0) ∷ at 2000 (Tick 0) ∷ at 2022 (Tick 0)
-    ∷ at 2030 (Order 0 Go) ∷ at 2030 (Order 0 Go) ∷ at 2031 (Deliver 0 0 1 2) ∷ []
+    at 0 (Order 0 (Plain Go)) ∷ at 1000 (Tick 0) ∷ at 2000 (Tick 0) ∷ at 2022 (Tick 0)
+    ∷ at 2030 (Order 0 (Plain Go)) ∷ at 2030 (Order 0 (Plain Go)) ∷ at 2031 (Deliver 0 0 1 2) ∷ []
 
-line_3 : reply_to w (events_done w (take 0 script)) (at 0 (Order 0 Go)) ≡ Done
+line_3 : reply_to w (events_done w (take 0 script)) (at 0 (Order 0 (Plain Go))) ≡ Done
 line_3 = simp (no_move, after_first, cues) refl
 
 line_4 : reply_to w (events_done w (take 1 script)) (at 1000 (Tick 0))
@@ -67,10 +68,10 @@ line_6 = simp (no_move, after_first, cues, numbers, frame_1000, frame_2000) refl
 line_11 : reply_to w (events_done w (take 3 script)) (at 2022 (Tick 0)) ≡ Refused refused.TooSoon
 line_11 = simp (no_move, after_first, cues) refl
 
-line_12 : reply_to w (events_done w (take 4 script)) (at 2030 (Order 0 Go)) ≡ Done
+line_12 : reply_to w (events_done w (take 4 script)) (at 2030 (Order 0 (Plain Go))) ≡ Done
 line_12 = simp (no_move, after_first, cues) refl
 
-line_13 : reply_to w (events_done w (take 5 script)) (at 2030 (Order 0 Go)) ≡ Refused refused.AtEnd
+line_13 : reply_to w (events_done w (take 5 script)) (at 2030 (Order 0 (Plain Go))) ≡ Refused refused.AtEnd
 line_13 = simp (no_move, after_first, after_second, cues) refl
 
 line_14 : reply_to w (events_done w (take 6 script)) (at 2031 (Deliver 0 0 1 2))
@@ -78,7 +79,7 @@ line_14 : reply_to w (events_done w (take 6 script)) (at 2031 (Deliver 0 0 1 2))
 line_14 =
     simp (no_move, after_first, after_second, cues, numbers, frame_1000, frame_2000) refl
 
-skips : (reply_to w [] (at 0 (Order 1 Go)) ≡ Skipped skip.NoConsole)
+skips : (reply_to w [] (at 0 (Order 1 (Plain Go))) ≡ Skipped skip.NoConsole)
     × (reply_to w [] (at 0 (Show 1)) ≡ Skipped skip.NoReceiver)
     × (reply_to w (events_done w (at 5 (Tick 0) ∷ [])) (at 4 (Tick 0)) ≡ Skipped skip.Backwards)
     × (reply_to w (events_done w (at 5 (Tick 0) ∷ [])) (at 281474976710656 (Tick 0))
@@ -87,15 +88,15 @@ skips = (refl, refl, refl, refl)
 
 -- End, and the numbers of its terminations
 ending : reply_to w (events_done w
-    (at 0 (Order 0 Go) ∷ at 1000 (Tick 0) ∷ at 1000 (Order 0 End) ∷ []))
+    (at 0 (Order 0 (Plain Go)) ∷ at 1000 (Tick 0) ∷ at 1000 (Order 0 (Plain End)) ∷ []))
     (at 1023 (Tick 0)) ≡ Ticked (Ending 1) ((1, Sent 1) ∷ [])
 ending = simp (no_move, after_first, cues, numbers) refl
 
 -- with the deliveries: what the receiver shows, by what was delivered (`from_one` joins it to
 -- the bytes)
-abbrev with_deliveries : List Event
+abbrev with_deliveries : List Happening
 with_deliveries =
-    at 0 (Order 0 Go) ∷ at 1000 (Tick 0) ∷ at 1000 (Deliver 0 0 1 0) ∷ at 2000 (Tick 0)
+    at 0 (Order 0 (Plain Go)) ∷ at 1000 (Tick 0) ∷ at 1000 (Deliver 0 0 1 0) ∷ at 2000 (Tick 0)
     ∷ at 2010 (Deliver 0 0 1 1) ∷ at 2011 (Deliver 0 0 1 1) ∷ []
 
 -- what it has accepted after so many of these
@@ -183,9 +184,9 @@ module _ (priority : ℕ) (low : priority ≤ 200) where
   }
 
   -- two_consoles_highest, up to its line 9
-  abbrev both_sent : List Event
+  abbrev both_sent : List Happening
   both_sent =
-      at 0 (Order 0 (Sub 1 255)) ∷ at 0 (Order 1 (Sub 1 128)) ∷ at 0 (Tick 0) ∷ at 0 (Tick 1)
+      at 0 (Order 0 (Plain (Sub 1 255))) ∷ at 0 (Order 1 (Plain (Sub 1 128))) ∷ at 0 (Tick 0) ∷ at 0 (Tick 1)
       ∷ at 0 (Deliver 0 0 1 0) ∷ at 0 (Deliver 0 1 1 0) ∷ []
 
   two_world : IsWorld two

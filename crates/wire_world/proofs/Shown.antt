@@ -34,7 +34,7 @@ use Rattle.wire_world.specs.declared.reply.Reply.TheVariants.{Shown, Skipped}
 use Rattle.wire_world.specs.Shows.{IsShown, reply_alone}
 use Rattle.wire_world.proofs.Terms.{nat_tests, nat_list_eq_equiv, Identity, list_all, range_with_len}
 use Rattle.wire_world.proofs.Terms.{All-map, slice_get_within, get_or_from_slice_get, same_Some}
-use Rattle.wire_world.proofs.Terms.{Packet, shown_slots, Event, World, console_at, universe_at}
+use Rattle.wire_world.proofs.Terms.{Packet, shown_slots, Happening, World, console_at, universe_at}
 use Rattle.wire_world.proofs.Terms.{IsWorld, acts, packets_sent, accepted_by, datagram, option_map}
 use Rattle.wire_world.proofs.Terms.{option_map_or, Deliver, Show, Skip, Reply, packet_bytes}
 use Rattle.wire_world.proofs.Wire.{entry, sent_is, newest_sent}
@@ -222,7 +222,7 @@ pub fresh_parts : (t : ℕ) (ps : List Packet) (ds : List Delivery) → IsFreshI
 fresh_parts t ps [] f = absurd f
 fresh_parts t ps (d ∷ ds) f = f
 
-module _ (w : World) (v : IsWorld w) (r : ℕ) (past : List Event) (run : IsRun w past)
+module _ (w : World) (v : IsWorld w) (r : ℕ) (past : List Happening) (run : IsRun w past)
     (no_stray : NoStray w r past) (t : ℕ) (time : last_event_moment past ≤ t) (i : ℕ)
     (window : IsInWindow (deliveries w r i past)) where
   -- what is kept of console i, and that it is what is found
@@ -361,7 +361,7 @@ module _ (w : World) (v : IsWorld w) (r : ℕ) (past : List Event) (run : IsRun 
 
 -- ---- several consoles
 
-pub merges : (w : World) → IsWorld w → (r : ℕ) (past : List Event) → IsRun w past → (t : ℕ)
+pub merges : (w : World) → IsWorld w → (r : ℕ) (past : List Happening) → IsRun w past → (t : ℕ)
     → last_event_moment past ≤ t → HearsAll w r past → AreSettled w r past t → (slot : ℕ)
     → slot < 512 → slice_index (slots_at w r past t) slot ≡ merged_slot (lights w r past t) slot
 merges w v r past run t time hears state slot below =
@@ -407,23 +407,23 @@ merge_law w events r t v = merges w v r (events_done w events) (done_runs w even
 -- ---- the laws, of what a rehearsal shows
 
 -- what is shown: after these events, none of which was skipped, the slots at a moment not before
-pub record WasShown (w : World) (past : List Event) (r t : ℕ) (slots : List ℕ) : Type 0 where
+pub record WasShown (w : World) (past : List Happening) (r t : ℕ) (slots : List ℕ) : Type 0 where
   pub run : IsRun w past
   pub time : last_event_moment past ≤ t
   pub are : slots ≡ slots_at w r past t
 
-pub was_shown : (w : World) (events : List Event) (replies : List Reply) (last : List (List ℕ))
+pub was_shown : (w : World) (events : List Happening) (replies : List Reply) (last : List (List ℕ))
     → AreReplies w events replies → last ≡ last_slots w (events_done w events)
-    → (r t : ℕ) (past : List Event) (slots : List ℕ)
+    → (r t : ℕ) (past : List Happening) (slots : List ℕ)
     → IsShown w events replies last r t past slots → WasShown w past r t slots
 was_shown w events replies last are left r t past slots (inl is) =
     rw is.before (go (skip_of w before x) refl (same_Some (reply_to w before x) (Shown slots)
     (sym (are.1 is.place x is.asked) ∙ is.answered)))
   where
-    before : List Event
+    before : List Happening
     before = events_done w (take is.place events)
 
-    x : Event
+    x : Happening
     x = record { moment = t; what = Show r }
 
     go : (o : Option Skip) → skip_of w before x ≡ o
@@ -450,9 +450,9 @@ was_shown w events replies last are left r t past slots (inr is) =
           (omega (arith, within, length-map-range_with_len f 0 count)) (omega arith);
     })
 
-pub answers_alone : (w : World) (events : List Event) (replies : List Reply) → IsWorld w
+pub answers_alone : (w : World) (events : List Happening) (replies : List Reply) → IsWorld w
     → AreReplies w events replies → length w.consoles ≤ 4
-    → (j r i universe k t : ℕ) (past : List Event)
+    → (j r i universe k t : ℕ) (past : List Happening)
     → slice_get events j ≡ Some (record { moment = t; what = Deliver r i universe k })
     → past ≡ events_done w (take j events)
     → skip_of w past (record { moment = t; what = Deliver r i universe k }) ≡ None
@@ -469,8 +469,8 @@ answers_alone w events replies v are few j r i u k t past e is s apart no_stray 
     ∙ rw here (ap (λ a. Some (taken_reply a)) (consoles_independent w (take j events) r i u k t _ v
     apart few d.there m.after (rw is at no_stray) here)))
   where
-    before : List Event
+    before : List Happening
     before = events_done w (take j events)
 
-    x : Event
+    x : Happening
     x = record { moment = t; what = Deliver r i u k }

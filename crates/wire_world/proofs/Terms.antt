@@ -12,9 +12,9 @@ pub use Rattle.wire_world.specs.Stands.{AllAre, AllHear, AllTell, ConsolesStand,
 pub use Rattle.wire_world.specs.Stands.{HasReplayed, SendersAreSources, cast, world_of}
 pub use Rattle.wire_world.specs.World.{IsIdentity, IsWorld, World, console_at, no_console, plays}
 pub use Rattle.wire_world.specs.World.{universe_at}
-pub use Rattle.wire_world.specs.declared.event.Event.{Event}
-pub use Rattle.wire_world.specs.declared.event.What.{What}
-pub use Rattle.wire_world.specs.declared.event.What.TheVariants.{Deliver, Order, Show, Stray}
+pub use Rattle.wire_world.specs.declared.happening.Happening.{Happening}
+pub use Rattle.wire_world.specs.declared.happening.Occurrence.{Occurrence}
+pub use Rattle.wire_world.specs.declared.happening.Occurrence.TheVariants.{Deliver, Order, Show, Stray}
 pub use Rattle.wire_world.specs.declared.reply.Reply.{Reply}
 pub use Rattle.wire_world.specs.declared.reply.Skip.{Skip}
 pub use Rattle.wire_world.specs.declared.setup.Setup.{Setup}

@@ -7,33 +7,34 @@ use Rattle.std.proofs.lemmas.List.{get_or-set_other, get_or-set_same, get_or-rep
 use Rattle.std.proofs.lemmas.List.{length-replicate}
 use Rattle.wire_world.specs.Wanted.{IsFrom, IsUpTo, Spares, row_of, AreLows, AreUpTo, Holds, span_at}
 use Rattle.wire_world.proofs.Terms.{same_Some, get_or_from_slice_get, slice_get_within, length-set}
-use Rattle.wire_world.proofs.Terms.{Event, What, Deliver, option_map, Start, World, console_at}
+use Rattle.wire_world.proofs.Terms.{Happening, Occurrence, Deliver, option_map, Start, World, console_at}
 use Rattle.wire_world.proofs.Terms.{Stage, gone_of, StageStands, LinkTells, ConsolesStand, AllTell}
 use Rattle.wire_world.proofs.Linked.{first_gone}
 
 -- ---- the least numbers of the packets that later events deliver
 
 -- a delivery is of no packet before the least of its row
-abbrev pub IsLeast : List ℕ → What → Type 0
+abbrev pub IsLeast : List ℕ → Occurrence → Type 0
 IsLeast least what = (r i u k : ℕ) → what ≡ Deliver r i u k → slice_index least (row_of i u) ≤ k
 
 -- so for the events from event n on
-pub record AreLowsFrom (events : List Event) (lows least : List ℕ) (n : ℕ) : Type 0 where
+pub record AreLowsFrom (events : List Happening) (lows least : List ℕ) (n : ℕ) : Type 0 where
   pub long : length lows ≡ length events
   pub wide : length least ≡ 64
-  pub least_are : (j : ℕ) (f : Event) → n ≤ j → slice_get events j ≡ Some f → IsLeast least f.what
-  pub lows_are : (i j : ℕ) (e f : Event) → n ≤ i → i < j → slice_get events i ≡ Some e
+  pub least_are : (j : ℕ) (f : Happening) → n ≤ j → slice_get events j ≡ Some f
+      → IsLeast least f.what
+  pub lows_are : (i j : ℕ) (e f : Happening) → n ≤ i → i < j → slice_get events i ≡ Some e
       → slice_get events j ≡ Some f → Spares e.what (slice_index lows i) f.what
   pub greatest : (row low : ℕ) → row < 64 → low < 2 ^ 64
-      → ((j : ℕ) (f : Event) → n ≤ j → slice_get events j ≡ Some f → IsFrom row low f.what)
+      → ((j : ℕ) (f : Happening) → n ≤ j → slice_get events j ≡ Some f → IsFrom row low f.what)
       → low ≤ slice_index least row
-  pub greatest_are : (i r c u k low : ℕ) (e : Event) → n ≤ i → slice_get events i ≡ Some e
+  pub greatest_are : (i r c u k low : ℕ) (e : Happening) → n ≤ i → slice_get events i ≡ Some e
       → e.what ≡ Deliver r c u k → low < 2 ^ 64
-      → ((j : ℕ) (f : Event) → i < j → slice_get events j ≡ Some f
+      → ((j : ℕ) (f : Happening) → i < j → slice_get events j ≡ Some f
       → IsFrom (row_of c u) low f.what) → low ≤ slice_index lows i
 
 -- before the last event nothing is wanted yet
-pub lows_first : (events : List Event) (lows : List ℕ) → length lows ≡ length events
+pub lows_first : (events : List Happening) (lows : List ℕ) → length lows ≡ length events
     → AreLowsFrom events lows (replicate 64 (2 ^ 64 - 1)) (length events)
 lows_first events lows long = record {
   long = long;
@@ -56,10 +57,10 @@ index_less (x ∷ xs) (suc i) zero y l = omega arith
 index_less (x ∷ xs) (suc i) (suc j) y l = index_less xs i j y l
 
 -- what holds of each event: of event n, and of the others
-one_more : (P : ℕ → Event → Type 0) (events : List Event) (n : ℕ) (e : Event)
+one_more : (P : ℕ → Happening → Type 0) (events : List Happening) (n : ℕ) (e : Happening)
     → slice_get events n ≡ Some e → P n e
-    → ((j : ℕ) (f : Event) → (n ≡ j → ⊥) → slice_get events j ≡ Some f → P j f)
-    → (j : ℕ) (f : Event) → slice_get events j ≡ Some f → P j f
+    → ((j : ℕ) (f : Happening) → (n ≡ j → ⊥) → slice_get events j ≡ Some f → P j f)
+    → (j : ℕ) (f : Happening) → slice_get events j ≡ Some f → P j f
 one_more P events n e at new old j f g = elim (cases_eq n j) [
   | inl q ↦
       (let same : e ≡ f = same_Some e f (sym at ∙ ap (slice_get events) q ∙ g) in
@@ -68,7 +69,7 @@ one_more P events n e at new old j f g = elim (cases_eq n j) [
 ]
 
 -- an event before these, and what it changes
-module _ (events : List Event) (lows least : List ℕ) (from n : ℕ) (e : Event)
+module _ (events : List Happening) (lows least : List ℕ) (from n : ℕ) (e : Happening)
     (next : from ≡ n + 1) (at : slice_get events n ≡ Some e)
     (all : AreLowsFrom events lows least from) where
   lows_with : (new_lows new_least : List ℕ) → length new_lows ≡ length lows
@@ -97,7 +98,7 @@ module _ (events : List Event) (lows least : List ℕ) (from n : ℕ) (e : Event
     greatest = λ row low inside wide h. kept row low (h n e (omega arith) at)
         (all.greatest row low inside wide (λ j f l g. h j f (omega (arith, l, next)) g));
     greatest_are = λ i r c u k low d l a is wide h. one_more
-        (λ i d. n ≤ i → d.what ≡ Deliver r c u k → ((j : ℕ) (f : Event) → i < j
+        (λ i d. n ≤ i → d.what ≡ Deliver r c u k → ((j : ℕ) (f : Happening) → i < j
         → slice_get events j ≡ Some f → IsFrom (row_of c u) low f.what)
         → low ≤ slice_index new_lows i) events n e at
         (λ _ is h. let most = all.greatest (row_of c u) low (omega arith) wide
@@ -140,12 +141,13 @@ module _ (events : List Event) (lows least : List ℕ) (from n : ℕ) (e : Event
 -- ---- the last packet of all
 
 -- of the events before event n
-abbrev pub AreUpToBefore : List Event → ℕ → ℕ → Type 0
-AreUpToBefore events last n = (j : ℕ) (e : Event) → j < n → slice_get events j ≡ Some e
+abbrev pub AreUpToBefore : List Happening → ℕ → ℕ → Type 0
+AreUpToBefore events last n = (j : ℕ) (e : Happening) → j < n → slice_get events j ≡ Some e
     → IsUpTo last e.what
 
 -- one event more
-pub up_to_next : (events : List Event) (last new n : ℕ) (e : Event) → slice_get events n ≡ Some e
+pub up_to_next : (events : List Happening) (last new n : ℕ) (e : Happening)
+    → slice_get events n ≡ Some e
     → last ≤ new → IsUpTo new e.what → AreUpToBefore events last n
     → AreUpToBefore events new (n + 1)
 up_to_next events last new n e at l first all j f m g =
@@ -169,7 +171,7 @@ spans_set (s ∷ stages) (suc i) was is at same last (suc j) u =
 
 -- what stands where as many are gone
 holds_same : {F : Type 0} (old new : List (Stage F))
-    → ((i u : ℕ) → span_at new i u ≡ span_at old i u) → (what : What) → Holds old what
+    → ((i u : ℕ) → span_at new i u ≡ span_at old i u) → (what : Occurrence) → Holds old what
     → Holds new what
 holds_same {F} old new same what h r i u k s e at =
     go (slice_get old i) refl (sym (same i u) ∙ ap (option_map span) at)
@@ -186,13 +188,14 @@ holds_same {F} old new same what h r i u k s e at =
 -- ---- all events to come
 
 -- each packet that they want is there
-abbrev pub AllHold : {F : Type 0} → List (Stage F) → List Event → ℕ → Type 0
-AllHold stages events i = (j : ℕ) (e : Event) → i ≤ j → slice_get events j ≡ Some e
+abbrev pub AllHold : {F : Type 0} → List (Stage F) → List Happening → ℕ → Type 0
+AllHold stages events i = (j : ℕ) (e : Happening) → i ≤ j → slice_get events j ≡ Some e
     → Holds stages e.what
 
 -- at the beginning none is gone
 pub hold_first : {F : Type 0} (sf : F → List Start → Type 0) (stages : List (Stage F)) (w : World)
-    (events : List Event) → ConsolesStand (StageStands sf) stages w [] → AllTell LinkTells stages
+    (events : List Happening) → ConsolesStand (StageStands sf) stages w []
+    → AllTell LinkTells stages
     → All (λ stage. AreUpTo events stage.last) stages → AllHold stages events 0
 hold_first {F} sf stages w events all tell wanted j e l g r i u n s is at =
     let none = first_gone (console_at w i) u _ _ _
@@ -203,10 +206,10 @@ hold_first {F} sf stages w events all tell wanted j e l g r i u n s is at =
     )
 
 -- one event later
-pub hold_next : {F : Type 0} (old stepped new : List (Stage F)) (events : List Event)
-    (lows : List ℕ) (i : ℕ) (e : Event) → slice_get events i ≡ Some e → AreLows events lows
+pub hold_next : {F : Type 0} (old stepped new : List (Stage F)) (events : List Happening)
+    (lows : List ℕ) (i : ℕ) (e : Happening) → slice_get events i ≡ Some e → AreLows events lows
     → ((i u : ℕ) → span_at stepped i u ≡ span_at old i u)
-    → ((later : What) → Holds stepped later → Spares e.what (slice_index lows i) later
+    → ((later : Occurrence) → Holds stepped later → Spares e.what (slice_index lows i) later
     → Holds new later) → AllHold old events i → AllHold new events (i + 1)
 hold_next old stepped new events lows i e at are same released all = λ j f l g.
     released f.what (holds_same old stepped same f.what (all j f (omega (arith, l)) g))

@@ -31,7 +31,7 @@ use Rattle.std.proofs.lemmas.Map.Views.{Contains-from_any}
 use Rattle.wire_world.proofs.Terms.{option_or, option_map, nat_tests, front_packet, Identity, Packet}
 use Rattle.wire_world.proofs.Terms.{Ignored, IsIdentity, World, console_at, plays}
 use Rattle.wire_world.proofs.Terms.{get_or_from_slice_get, slice_get_within, Refused, Call, Act}
-use Rattle.wire_world.proofs.Terms.{refusal, HoldsFull, Production, universes_of, Event}
+use Rattle.wire_world.proofs.Terms.{refusal, HoldsFull, Production, universes_of, Happening}
 use Rattle.wire_world.proofs.Terms.{console_call, unless_refused, acts, stream, packets_sent}
 
 -- a packet says all of its source
@@ -153,7 +153,7 @@ module _ (c : Production) (u : ℕ) (h : List Act) (k : ℕ) (p : Packet)
   acted_stays t None = at
   acted_stays t (Some call) = unless_stays (refusal c.show h (record { moment = t; call = call })) _
 
-module _ (w : World) (i u k : ℕ) (past : List Event) (p : Packet)
+module _ (w : World) (i u k : ℕ) (past : List Happening) (p : Packet)
     (at : slice_get (packets_sent w i u past) k ≡ Some p) where
   -- who sends a packet plays its universe
   sent_plays : (plays (console_at w i) u ≡ true)
@@ -177,7 +177,7 @@ module _ (w : World) (i u k : ℕ) (past : List Event) (p : Packet)
         high = grind (arith, nat_tests, number);
       }
 
-  pub sent_stays : (e : Event) → slice_get (packets_sent w i u (e ∷ past)) k ≡ Some p
+  pub sent_stays : (e : Happening) → slice_get (packets_sent w i u (e ∷ past)) k ≡ Some p
   sent_stays e = rw sent_plays.0 (acted_stays (console_at w i) u (acts w i past) k p sent_plays.1
       e.moment (console_call i e.what))
 

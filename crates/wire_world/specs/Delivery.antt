@@ -2,9 +2,9 @@
 use Rattle.std.specs.Prelude.{ℕ, ◌+◌, ◌≤◌, ◌==◌, ◌&&◌, List, [], ◌∷◌, nat_lt, max}
 use Rattle.std.specs.Prelude.{if◌then◌else◌, Option, Some, None, slice_get}
 use Rattle.sacn_source.specs.Stream.{Packet}
-use Rattle.wire_world.specs.declared.event.Event.{Event}
-use Rattle.wire_world.specs.declared.event.What.{What}
-use Rattle.wire_world.specs.declared.event.What.TheVariants.{Deliver}
+use Rattle.wire_world.specs.declared.happening.Happening.{Happening}
+use Rattle.wire_world.specs.declared.happening.Occurrence.{Occurrence}
+use Rattle.wire_world.specs.declared.happening.Occurrence.TheVariants.{Deliver}
 use Rattle.wire_world.specs.World.{World, universe_at}
 use Rattle.wire_world.specs.Happened.{packets_sent}
 
@@ -21,7 +21,8 @@ delivered_more k moment (Some packet) older =
     record { k = k; moment = moment; packet = packet } ∷ older
 
 -- one more, where an event hands receiver r a packet of its universe that console i has sent
-abbrev pub delivered_by : World → ℕ → ℕ → List Event → ℕ → What → List Delivery → List Delivery
+abbrev pub delivered_by : World → ℕ → ℕ → List Happening → ℕ → Occurrence → List Delivery
+    → List Delivery
 delivered_by w r i past moment (Deliver q j universe k) older =
     if (q == r && universe == universe_at w r) && j == i
     then delivered_more k moment (slice_get (packets_sent w i (universe_at w r) past) k) older
@@ -30,7 +31,7 @@ delivered_by w r i past moment _ older = older
 
 -- the packets of its universe that were handed to receiver r from console i, in any order and any
 -- number of times
-abbrev pub deliveries : World → ℕ → ℕ → List Event → List Delivery
+abbrev pub deliveries : World → ℕ → ℕ → List Happening → List Delivery
 deliveries w r i [] = []
 deliveries w r i (e ∷ past) = delivered_by w r i past e.moment e.what (deliveries w r i past)
 

@@ -10,16 +10,16 @@ use Rattle.sacn_source.specs.Stream.{Packet, packets}
 use Rattle.sacn_receiver.specs.Source.{Entry}
 use Rattle.sacn_receiver.specs.Taking.{history_after}
 use Rattle.console.specs.Streams.{Production, offers_of, terminations_of}
-use Rattle.wire_world.specs.declared.event.Event.{Event}
-use Rattle.wire_world.specs.declared.event.What.{What}
-use Rattle.wire_world.specs.declared.event.What.TheVariants.{Order, Tick, Deliver, Stray}
+use Rattle.wire_world.specs.declared.happening.Happening.{Happening}
+use Rattle.wire_world.specs.declared.happening.Occurrence.{Occurrence}
+use Rattle.wire_world.specs.declared.happening.Occurrence.TheVariants.{Order, Tick, Deliver, Stray}
 use Rattle.wire_world.specs.World.{World, console_at, universe_at, plays}
 use Rattle.wire_world.specs.Datagrams.{packet_bytes}
 
 -- ---- consoles
 
 -- the call of console i that an event is, where it is one
-abbrev pub console_call : ℕ → What → Option Call
+abbrev pub console_call : ℕ → Occurrence → Option Call
 console_call i (Order j command) = if j == i then Some (order command) else None
 console_call i (Tick j) = if j == i then Some tick else None
 console_call i _ = None
@@ -37,7 +37,7 @@ acts_after_call show moment (Some call) history =
     unless_refused (refusal show history act) act history
 
 -- the history of console i: its accepted calls
-abbrev pub acts : World → ℕ → List Event → List Act
+abbrev pub acts : World → ℕ → List Happening → List Act
 acts w i [] = []
 acts w i (e ∷ past) =
     acts_after_call (console_at w i).show e.moment (console_call i e.what) (acts w i past)
@@ -59,17 +59,17 @@ bytes_of console history universe k =
     (slice_get (packets_of console history universe) k)
 
 -- the packets that console i has sent for a universe after these events
-abbrev pub packets_sent : World → ℕ → ℕ → List Event → List Packet
+abbrev pub packets_sent : World → ℕ → ℕ → List Happening → List Packet
 packets_sent w i universe past = packets_of (console_at w i) (acts w i past) universe
 
 -- ---- receivers
 
 -- the datagram of packet k of a universe of console i, where it was sent
-abbrev pub datagram : World → ℕ → ℕ → ℕ → List Event → Option (List ℕ)
+abbrev pub datagram : World → ℕ → ℕ → ℕ → List Happening → Option (List ℕ)
 datagram w i universe k past = bytes_of (console_at w i) (acts w i past) universe k
 
 -- the datagram that an event hands to receiver r, where it hands it one
-abbrev pub datagram_to : World → ℕ → List Event → What → Option (List ℕ)
+abbrev pub datagram_to : World → ℕ → List Happening → Occurrence → Option (List ℕ)
 datagram_to w r past (Deliver q i universe k) =
     if q == r then datagram w i universe k past else None
 datagram_to w r past (Stray q from to) =
@@ -82,7 +82,7 @@ hears universe moment None history = history
 hears universe moment (Some bytes) history = history_after 4 universe history moment bytes
 
 -- what receiver r has accepted
-abbrev pub accepted_by : World → ℕ → List Event → List Entry
+abbrev pub accepted_by : World → ℕ → List Happening → List Entry
 accepted_by w r [] = []
 accepted_by w r (e ∷ past) =
     hears (universe_at w r) e.moment (datagram_to w r past e.what) (accepted_by w r past)

@@ -16,9 +16,9 @@ use Rattle.sacn_receiver.specs.Source.{Entry}
 use Rattle.sacn_receiver.specs.Taking.{answer}
 use Rattle.sacn_receiver.specs.Shown.{Light, merged_slot, shown_slots}
 use Rattle.console.specs.Streams.{terminations_of}
-use Rattle.wire_world.specs.declared.event.Event.{Event}
-use Rattle.wire_world.specs.declared.event.What.{What}
-use Rattle.wire_world.specs.declared.event.What.TheVariants.{Deliver, Stray}
+use Rattle.wire_world.specs.declared.happening.Happening.{Happening}
+use Rattle.wire_world.specs.declared.happening.Occurrence.{Occurrence}
+use Rattle.wire_world.specs.declared.happening.Occurrence.TheVariants.{Deliver, Stray}
 use Rattle.wire_world.specs.World.{World, console_at, universe_at, IsWorld}
 use Rattle.wire_world.specs.Happened.{acts, packets_sent, datagram, hears, accepted_by}
 use Rattle.wire_world.specs.Replies.{last_event_moment, events_done}
@@ -27,25 +27,25 @@ use Rattle.wire_world.specs.Delivery.{Delivery, deliveries, newest_of, arrival, 
 -- ---- what the laws ask of the events
 
 -- an event is no stray to receiver r that is heard on its universe
-abbrev pub IsUnheard : World → ℕ → What → Type 0
+abbrev pub IsUnheard : World → ℕ → Occurrence → Type 0
 IsUnheard w r (Stray q from to) =
     q ≡ r → IsTrue (is_some (not_heard (universe_at w r) (slice_range w.strays from to)))
 IsUnheard w r _ = Unit {0}
 
 -- no stray to receiver r was heard on its universe. Other strays may come anywhere
-abbrev pub NoStray : World → ℕ → List Event → Type 0
+abbrev pub NoStray : World → ℕ → List Happening → Type 0
 NoStray w r [] = Unit {0}
 NoStray w r (e ∷ past) = IsUnheard w r e.what × NoStray w r past
 
 -- no console but i has sent for the universe of receiver r
-abbrev pub IsAlone : World → ℕ → ℕ → List Event → Type 0
+abbrev pub IsAlone : World → ℕ → ℕ → List Happening → Type 0
 IsAlone w r i past =
     (j : ℕ) → j < length w.consoles → IsFalse (j == i)
     → packets_sent w j (universe_at w r) past ≡ []
 
 -- receiver r hears console i alone: no other console has sent for its universe, no stray was heard
 -- on it, and the packets that came to it from console i stayed in the window
-pub record HearsOne (w : World) (r i : ℕ) (past : List Event) : Type 0 where
+pub record HearsOne (w : World) (r i : ℕ) (past : List Happening) : Type 0 where
   pub alone : IsAlone w r i past
   pub no_stray : NoStray w r past
   pub window : IsInWindow (deliveries w r i past)
@@ -57,11 +57,11 @@ IsFreshIn t packets (d ∷ older) =
     (suc (newest_of (d ∷ older)) ≡ length packets) × (t < arrival (d ∷ older) + 2500)
 
 -- so for the packets of console i on the universe of receiver r
-abbrev pub IsFresh : World → ℕ → ℕ → List Event → ℕ → Type 0
+abbrev pub IsFresh : World → ℕ → ℕ → List Happening → ℕ → Type 0
 IsFresh w r i past t = IsFreshIn t (packets_sent w i (universe_at w r) past) (deliveries w r i past)
 
 -- no packet of console i came to receiver r less than 2,500 ms before moment t
-abbrev pub is_silent : World → ℕ → ℕ → List Event → ℕ → Bool
+abbrev pub is_silent : World → ℕ → ℕ → List Happening → ℕ → Bool
 is_silent w r i past t = list_all (λ d. nat_le (d.moment + 2500) t) (deliveries w r i past)
 
 -- the CIDs of the consoles differ
@@ -72,14 +72,14 @@ CidsDiffer w =
 
 -- receiver r hears the consoles, at most four of them with CIDs of their own: no stray was heard
 -- on its universe, and the packets that came to it from each console stayed in the window
-pub record HearsAll (w : World) (r : ℕ) (past : List Event) : Type 0 where
+pub record HearsAll (w : World) (r : ℕ) (past : List Happening) : Type 0 where
   pub apart : CidsDiffer w
   pub few : length w.consoles ≤ 4
   pub no_stray : NoStray w r past
   pub window : (i : ℕ) → i < length w.consoles → IsInWindow (deliveries w r i past)
 
 -- each console that has sent for the universe of receiver r is fresh or silent
-abbrev pub AreSettled : World → ℕ → List Event → ℕ → Type 0
+abbrev pub AreSettled : World → ℕ → List Happening → ℕ → Type 0
 AreSettled w r past t =
     (i : ℕ) → i < length w.consoles → (packets_sent w i (universe_at w r) past ≡ [] → ⊥)
     → IsFresh w r i past t ⊎ IsTrue (is_silent w r i past t)
@@ -88,12 +88,12 @@ AreSettled w r past t =
 
 -- what console i's show means for the universe of receiver r at the latest tick, under the
 -- commands before that tick
-abbrev pub meant_slots : World → ℕ → ℕ → List Event → List ℕ
+abbrev pub meant_slots : World → ℕ → ℕ → List Happening → List ℕ
 meant_slots w r i past =
     latest_frame (console_at w i).show (acts w i past) (universe_at w r - (console_at w i).base)
 
 -- the slots of receiver r at moment t after these events
-abbrev pub slots_at : World → ℕ → List Event → ℕ → List ℕ
+abbrev pub slots_at : World → ℕ → List Happening → ℕ → List ℕ
 slots_at w r past t = shown_slots (accepted_by w r past) t
 
 -- THE HEADLINE. Whatever the events: where receiver r hears console i alone, then whenever the
@@ -101,7 +101,7 @@ slots_at w r past t = shown_slots (accepted_by w r past) t
 -- its slots are what the show means at the latest tick, under the commands before that tick
 abbrev pub Headline : Type 0
 Headline =
-    (w : World) (events : List Event) (r i t : ℕ) → IsWorld w
+    (w : World) (events : List Happening) (r i t : ℕ) → IsWorld w
     → (let past = events_done w events in
     last_event_moment past ≤ t → HearsOne w r i past → IsFresh w r i past t
     → slots_at w r past t ≡ meant_slots w r i past)
@@ -115,7 +115,7 @@ IsUnpatched w r i slot =
 -- and a slot without a patched channel is 0
 abbrev pub UnpatchedSlotsAreZero : Type 0
 UnpatchedSlotsAreZero =
-    (w : World) (events : List Event) (r i t slot : ℕ) → IsWorld w
+    (w : World) (events : List Happening) (r i t slot : ℕ) → IsWorld w
     → (let past = events_done w events in
     last_event_moment past ≤ t → HearsOne w r i past → IsFresh w r i past t
     → slot < 512 → IsUnpatched w r i slot → slice_index (slots_at w r past t) slot ≡ 0)
@@ -136,7 +136,7 @@ pub record IsOneOf (t : ℕ) (slots : List ℕ) (packets : List Packet) (ds : Li
 -- its slots are those of one delivered packet, the newest or up to 19 behind it, or all 0
 abbrev pub WindowLaw : Type 0
 WindowLaw =
-    (w : World) (events : List Event) (r i t : ℕ) → IsWorld w
+    (w : World) (events : List Happening) (r i t : ℕ) → IsWorld w
     → (let past = events_done w events in
     last_event_moment past ≤ t → HearsOne w r i past
     → IsOneOf t (slots_at w r past t) (packets_sent w i (universe_at w r) past)
@@ -146,7 +146,7 @@ WindowLaw =
 -- and they are all 0 where none arrived less than 2,500 ms ago
 abbrev pub SilenceIsDark : Type 0
 SilenceIsDark =
-    (w : World) (events : List Event) (r i t : ℕ) → IsWorld w
+    (w : World) (events : List Happening) (r i t : ℕ) → IsWorld w
     → (let past = events_done w events in
     last_event_moment past ≤ t → HearsOne w r i past → IsTrue (is_silent w r i past t)
     → slots_at w r past t ≡ dark)
@@ -158,18 +158,18 @@ abbrev pub is_live : List Act → Bool
 is_live history = terminations_of history == 0
 
 -- console i lights receiver r: it is not silent, and its latest tick was before End
-abbrev pub is_lit : World → ℕ → List Event → ℕ → ℕ → Bool
+abbrev pub is_lit : World → ℕ → List Happening → ℕ → ℕ → Bool
 is_lit w r past t i = not (is_silent w r i past t) && is_live (acts w i past)
 
 -- what it lights with: its priority, and what its show means
-abbrev pub light : World → ℕ → List Event → ℕ → Light
+abbrev pub light : World → ℕ → List Happening → ℕ → Light
 light w r past i = record {
   priority = (console_at w i).source.priority;
   slots = meant_slots w r i past;
 }
 
 -- the lights of receiver r
-abbrev pub lights : World → ℕ → List Event → ℕ → List Light
+abbrev pub lights : World → ℕ → List Happening → ℕ → List Light
 lights w r past t =
     map (light w r past) (filter (is_lit w r past t) (range_with_len 0 (length w.consoles)))
 
@@ -178,20 +178,20 @@ lights w r past t =
 -- the greatest that the ones of the greatest priority mean, and 0 where there are none
 abbrev pub MergeLaw : Type 0
 MergeLaw =
-    (w : World) (events : List Event) (r t : ℕ) → IsWorld w
+    (w : World) (events : List Happening) (r t : ℕ) → IsWorld w
     → (let past = events_done w events in
     last_event_moment past ≤ t → HearsAll w r past → AreSettled w r past t
     → (slot : ℕ) → slot < 512
     → slice_index (slots_at w r past t) slot ≡ merged_slot (lights w r past t) slot)
 
 -- the datagram that an event hands to receiver r from console i
-abbrev pub handed_from : World → ℕ → ℕ → List Event → What → Option (List ℕ)
+abbrev pub handed_from : World → ℕ → ℕ → List Happening → Occurrence → Option (List ℕ)
 handed_from w r i past (Deliver q j universe k) =
     if q == r && j == i then datagram w j universe k past else None
 handed_from w r i past _ = None
 
 -- what receiver r would have accepted if the packets of console i alone had come
-abbrev pub accepted_from : World → ℕ → ℕ → List Event → List Entry
+abbrev pub accepted_from : World → ℕ → ℕ → List Happening → List Entry
 accepted_from w r i [] = []
 accepted_from w r i (e ∷ past) =
     hears (universe_at w r) e.moment (handed_from w r i past e.what) (accepted_from w r i past)
@@ -201,7 +201,7 @@ accepted_from w r i (e ∷ past) =
 -- alone had come
 abbrev pub ConsolesAreIndependent : Type 0
 ConsolesAreIndependent =
-    (w : World) (events : List Event) (r i universe k t : ℕ) (bytes : List ℕ) → IsWorld w
+    (w : World) (events : List Happening) (r i universe k t : ℕ) (bytes : List ℕ) → IsWorld w
     → CidsDiffer w → length w.consoles ≤ 4 → i < length w.consoles
     → (let past = events_done w events in
     last_event_moment past ≤ t → NoStray w r past → datagram w i universe k past ≡ Some bytes
@@ -214,7 +214,7 @@ ConsolesAreIndependent =
 -- that packet of the console's stream, in the only bytes that E1.31 allows for it
 abbrev pub DatagramsArePackets : Type 0
 DatagramsArePackets =
-    (w : World) (i universe k : ℕ) (past : List Event) (packet : Packet) → IsWorld w
+    (w : World) (i universe k : ℕ) (past : List Happening) (packet : Packet) → IsWorld w
     → i < length w.consoles → slice_get (packets_sent w i universe past) k ≡ Some packet
     → (let source = (console_at w i).source in
     (bytes : List ℕ) × (datagram w i universe k past ≡ Some bytes)

@@ -1,3 +1,4 @@
+pub mod Widened
 pub mod World
 pub mod Datagrams
 pub mod Happened

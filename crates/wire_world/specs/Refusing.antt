@@ -5,9 +5,9 @@ use Rattle.std.specs.List.{list_all, list_any}
 use Rattle.std.specs.Option.{option_map_or}
 use Rattle.show_core.specs.Tables.{Tables}
 use Rattle.patch_core.specs.Frame.{is_base}
-use Rattle.wire_world.specs.declared.event.Event.{Event}
-use Rattle.wire_world.specs.declared.event.What.{What}
-use Rattle.wire_world.specs.declared.event.What.TheVariants.{Stray}
+use Rattle.wire_world.specs.declared.happening.Happening.{Happening}
+use Rattle.wire_world.specs.declared.happening.Occurrence.{Occurrence}
+use Rattle.wire_world.specs.declared.happening.Occurrence.TheVariants.{Stray}
 use Rattle.rehearsal_faults.specs.declared.fault.Fault.{Fault}
 use Rattle.rehearsal_faults.specs.declared.fault.Fault.TheVariants.{Consoles, Receivers, NoShow}
 use Rattle.rehearsal_faults.specs.declared.fault.Fault.TheVariants.{Universe, Memory}
@@ -59,10 +59,10 @@ AnswersSetup (Some fault) result = result ≡ Err fault
 AnswersSetup None result = IfErr result (λ fault. fault ≡ Memory)
 
 -- the bytes of a stray lie within all strays
-abbrev pub stray_fits : ℕ → What → Bool
+abbrev pub stray_fits : ℕ → Occurrence → Bool
 stray_fits size (Stray receiver from to) = nat_le from to && nat_le to size
 stray_fits size _ = true
 
 -- so for each of the events
-abbrev pub are_within : ℕ → List Event → Bool
+abbrev pub are_within : ℕ → List Happening → Bool
 are_within size events = list_all (λ event. stray_fits size event.what) events

@@ -11,9 +11,9 @@ use Rattle.desk_core.specs.declared.answer.Ticked.{Ticked}
 use Rattle.desk_core.specs.Played.{Act}
 use Rattle.sacn_source.specs.declared.offered.Offered.{Offered}
 use Rattle.sacn_receiver.specs.Kept.{ReceiverState, StandsFor}
-use Rattle.wire_world.specs.declared.event.Event.{Event}
-use Rattle.wire_world.specs.declared.event.What.{What}
-use Rattle.wire_world.specs.declared.event.What.TheVariants.{Stray}
+use Rattle.wire_world.specs.declared.happening.Happening.{Happening}
+use Rattle.wire_world.specs.declared.happening.Occurrence.{Occurrence}
+use Rattle.wire_world.specs.declared.happening.Occurrence.TheVariants.{Stray}
 use Rattle.wire_world.specs.declared.reply.Skip.{Skip}
 use Rattle.wire_world.specs.declared.reply.Reply.{Reply}
 use Rattle.wire_world.specs.declared.reply.Reply.TheVariants as reply
@@ -31,13 +31,14 @@ tick_reply (Err refused) = reply.Refused refused
 
 -- each console stands for its history
 pub record ConsolesStand {S : Type 0} (stands_for : S → Production → List Act → Type 0)
-    (stages : List S) (w : World) (past : List Event) : Type 0 where
+    (stages : List S) (w : World) (past : List Happening) : Type 0 where
   pub each : length stages ≡ length w.consoles
   pub stand : (i : ℕ) (s : S) → slice_get stages i ≡ Some s
       → stands_for s (console_at w i) (acts w i past)
 
 -- each receiver stands for what it has accepted
-pub record AllHear (receivers : List ReceiverState) (w : World) (past : List Event) : Type 0 where
+pub record AllHear (receivers : List ReceiverState) (w : World) (past : List Happening)
+    : Type 0 where
   pub each : length receivers ≡ length w.receivers
   pub universes : (r : ℕ) (k : ReceiverState) → slice_get receivers r ≡ Some k
       → k.universe ≡ universe_at w r
@@ -49,7 +50,7 @@ abbrev pub AllTell : {S : Type 0} → (S → Type 0) → List S → Type 0
 AllTell {S} tells stages = (i : ℕ) (s : S) → slice_get stages i ≡ Some s → tells s
 
 -- the events done after one more, which is skipped for this reason, if there is one
-abbrev pub unless_skipped : Option Skip → Event → List Event → List Event
+abbrev pub unless_skipped : Option Skip → Happening → List Happening → List Happening
 unless_skipped o e past = if is_some o then past else e ∷ past
 
 -- no receiver is ahead of a moment
@@ -58,14 +59,14 @@ AllBy receivers moment =
     (r : ℕ) (k : ReceiverState) → slice_get receivers r ≡ Some k → k.latest ≤ moment
 
 -- the bytes of a stray lie within all strays
-abbrev pub StrayFits : ℕ → What → Type 0
+abbrev pub StrayFits : ℕ → Occurrence → Type 0
 StrayFits size (Stray receiver from to) = (from ≤ to) × (to ≤ size)
 StrayFits size _ = Unit {0}
 
 -- all that is kept stands for the events so far
 pub record AllAre {S : Type 0} (stands_for : S → Production → List Act → Type 0)
     (tells : S → Type 0) (stages : List S) (receivers : List ReceiverState) (w : World)
-    (past : List Event)
+    (past : List Happening)
     : Type 0 where
   pub stand : ConsolesStand stands_for stages w past
   pub tell : AllTell tells stages
@@ -75,7 +76,7 @@ pub record AllAre {S : Type 0} (stands_for : S → Production → List Act → T
 pub record IsStep {S : Type 0} (stands_for : S → Production → List Act → Type 0)
     (tells : S → Type 0) (stages : List S) (receivers : List ReceiverState) (last : ℕ)
     (reply : Reply)
-    (w : World) (past : List Event) (e : Event) : Type 0 where
+    (w : World) (past : List Happening) (e : Happening) : Type 0 where
   pub replied : reply ≡ reply_to w past e
   pub last_is : last ≡ last_event_moment (done_one w past e)
   pub are : AllAre stands_for tells stages receivers w (done_one w past e)
@@ -88,11 +89,11 @@ is_skip _ = false
 -- the first n events were carried out, and these are the replies to them
 pub record HasReplayed {S : Type 0} (stands_for : S → Production → List Act → Type 0)
     (tells : S → Type 0) (stages : List S) (receivers : List ReceiverState) (last : ℕ)
-    (replies : List Reply) (w : World) (events : List Event) (n : ℕ) : Type 0 where
+    (replies : List Reply) (w : World) (events : List Happening) (n : ℕ) : Type 0 where
   pub long : length replies ≡ n
   pub last_is : last ≡ last_event_moment (events_done w (take n events))
   pub are : AllAre stands_for tells stages receivers w (events_done w (take n events))
-  pub below : (j : ℕ) (e : Event) → j < n → slice_get events j ≡ Some e
+  pub below : (j : ℕ) (e : Happening) → j < n → slice_get events j ≡ Some e
       → slice_get replies j ≡ Some (reply_to w (events_done w (take j events)) e)
 
 -- the console of a setup

@@ -5,6 +5,7 @@
 //! is the product's headline: in the window, the slots are the levels that the show means at the
 //! latest tick. The [`laws`] say so of the definitions alone, which know no link, no desk and no
 //! receiver's records; a law is called where its words are needed, and does nothing when it runs.
+//! They speak of [`Happening`]s, which [`rehearse_compactly`] takes: each [`Event`] is one.
 //!
 //! ```
 //! let setup = Setup { show: 0, base: 1, identity };
@@ -21,6 +22,7 @@ mod few_offers;
 mod handover;
 mod happen;
 mod happening;
+mod incident;
 pub mod laws;
 mod listening;
 mod lows;
@@ -45,6 +47,7 @@ mod steps;
 pub use compact_reply::CompactReply;
 pub use console::Offers;
 pub use event::{Event, What};
+pub use happening::{Happening, Occurrence};
 pub use rehearsal::{rehearse, rehearse_compactly};
 pub use rehearsal_faults::Fault;
 pub use reply::{Reply, Skip};

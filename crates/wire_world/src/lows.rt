@@ -1,12 +1,12 @@
 ghost use Rattle.std.specs.Prelude.{◌≡◌, ◌<◌, ◌≤◌, ℕ, IfOk, length};
 ghost use Rattle.wire_world.specs.Wanted.{AreGreatest, AreLows, AreUpTo, IsUpTo, row_of};
 
-use crate::{Event, What};
+use crate::{Happening, Occurrence};
 use std::alloc::{AllocError, Global};
 
 // Of each delivery the number of a packet of its universe, before which no later event delivers
 // one: such packets need not be kept.
-pub(crate) fn lows(alloc: Global, events: &[Event]) -> Result<Vec<u64>, AllocError>
+pub(crate) fn lows(alloc: Global, events: &[Happening]) -> Result<Vec<u64>, AllocError>
     ensures each { IfOk result (λ lows. length lows.items ≡ length events.now) }
     ensures lows { IfOk result (λ lows. AreLows events.now lows.items) }
     ensures greatest { IfOk result (λ lows. AreGreatest events.now lows.items) }
@@ -15,7 +15,7 @@ pub(crate) fn lows(alloc: Global, events: &[Event]) -> Result<Vec<u64>, AllocErr
     // Four consoles have at most sixteen universes each, in a row.
     let mut least = [u64::MAX; 64];
     for i in (0..events.len()).rev() {
-        if let What::Deliver {
+        if let Occurrence::Deliver {
             console,
             universe,
             k,
@@ -39,7 +39,7 @@ fn row_of(console: u16, universe: u16) -> usize
 }
 
 // The greatest number of a packet that an event delivers: those behind it need not be kept.
-pub(crate) fn last_wanted(events: &[Event]) -> u64
+pub(crate) fn last_wanted(events: &[Happening]) -> u64
     ensures up_to { AreUpTo events.now result }
     ensures least { (last : ℕ) → AreUpTo events.now last → result ≤ last }
 {
@@ -51,12 +51,12 @@ pub(crate) fn last_wanted(events: &[Event]) -> u64
 }
 
 // The number of the packet that an event delivers, 0 where it delivers none.
-fn packet_wanted(what: What) -> u64
+fn packet_wanted(what: Occurrence) -> u64
     ensures up_to { IsUpTo result what }
     ensures least { (last : ℕ) → IsUpTo last what → result ≤ last }
 {
     match what {
-        What::Deliver { k, .. } => k,
+        Occurrence::Deliver { k, .. } => k,
         _ => 0,
     }
 }

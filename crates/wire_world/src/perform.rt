@@ -7,7 +7,7 @@ use crate::lows::last_wanted;
 use crate::opening::open_all;
 use crate::replay::run;
 use crate::stage::Stage;
-use crate::{CompactReport, Event, Setup};
+use crate::{CompactReport, Happening, Setup};
 use fade_core::Fader;
 use show_core::Show;
 use std::alloc::{AllocError, Global};
@@ -18,7 +18,7 @@ pub(crate) fn perform<F: Fader>(
     shows: &[Show],
     consoles: &[Setup],
     receivers: &[u16],
-    events: &[Event],
+    events: &[Happening],
     strays: &[u8],
 ) -> Result<CompactReport, AllocError>
     requires shows { All (λ s. s.show < length shows.now) consoles.now }

@@ -4,11 +4,13 @@ ghost use Rattle.wire_world.specs.Promised.{ShowsOnePacket, ShowsUnpatchedAsZero
 ghost use Rattle.wire_world.specs.Refusing.{AnswersSetup, are_within, setup_fault};
 ghost use Rattle.wire_world.specs.Replies.{AreReplies, events_done, last_slots};
 ghost use Rattle.wire_world.specs.Stands.{world_of};
+ghost use Rattle.wire_world.specs.Widened.{happenings};
 ghost use Rattle.wire_world.specs.World.{IsWorld};
 
+use crate::happening::widened;
 use crate::perform::perform;
 use crate::setup::check;
-use crate::{CompactReport, Event, Fault, Report, Setup};
+use crate::{CompactReport, Event, Fault, Happening, Report, Setup};
 use fade_core::Fader;
 use show_core::Show;
 use std::alloc::{AllocError, Global};
@@ -34,7 +36,7 @@ pub fn rehearse<F: Fader>(
     events: &[Event],
     strays: &[u8],
 ) -> Result<Report, Fault>
-    requires within { IsTrue (are_within (length strays.now) events.now) }
+    requires within { IsTrue (are_within (length strays.now) (happenings events.now)) }
     ensures faults { AnswersSetup (setup_fault shows.now consoles.now receivers.now) result }
 
     // Each console's universes have numbers, and whoever sends for one is a source of E1.31.
@@ -44,22 +46,29 @@ pub fn rehearse<F: Fader>(
         OnOk result (length w.consoles ≤ 4) }
 
     ensures replies { let w = world_of shows.now consoles.now receivers.now strays.now in
-        IfOk result (λ report. AreReplies w events.now report.replies) }
+        IfOk result (λ report. AreReplies w (happenings events.now) report.replies) }
     ensures last { let w = world_of shows.now consoles.now receivers.now strays.now in
-        IfOk result (λ report. report.last ≡ last_slots w (events_done w events.now)) }
+        IfOk result (λ report. report.last
+        ≡ last_slots w (events_done w (happenings events.now))) }
 
     // The promise.
     ensures headline { let w = world_of shows.now consoles.now receivers.now strays.now in
-        IfOk result (ShowsMeaning w events.now) }
+        IfOk result (ShowsMeaning w (happenings events.now)) }
     ensures unpatched { let w = world_of shows.now consoles.now receivers.now strays.now in
-        IfOk result (ShowsUnpatchedAsZero w events.now) }
+        IfOk result (ShowsUnpatchedAsZero w (happenings events.now)) }
     ensures window_law { let w = world_of shows.now consoles.now receivers.now strays.now in
-        IfOk result (ShowsOnePacket w events.now) }
+        IfOk result (ShowsOnePacket w (happenings events.now)) }
     ensures merge_law { let w = world_of shows.now consoles.now receivers.now strays.now in
-        IfOk result (ShowsMerge w events.now) }
+        IfOk result (ShowsMerge w (happenings events.now)) }
     ensures independent { let w = world_of shows.now consoles.now receivers.now strays.now in
-        IfOk result (AnswersAlone w events.now) }
+        IfOk result (AnswersAlone w (happenings events.now)) }
 {
+    // The setup is looked at before memory is asked for.
+    check(shows, consoles, receivers)?;
+    let Ok(events) = widened(alloc, events) else {
+        return Err(Fault::Memory);
+    };
+    let events = events.as_slice();
     let compact = rehearse_compactly::<F>(alloc, shows, consoles, receivers, events, strays)?;
     match compact.report(alloc) {
         Ok(report) => Ok(report),
@@ -67,7 +76,8 @@ pub fn rehearse<F: Fader>(
     }
 }
 
-/// The same, with each reply in little room. All that is promised of [`rehearse`] holds.
+/// The same of the events of a script, with each reply in little room. All that is promised of
+/// [`rehearse`] holds.
 ///
 /// # Errors
 ///
@@ -77,7 +87,7 @@ pub fn rehearse_compactly<F: Fader>(
     shows: &[Show],
     consoles: &[Setup],
     receivers: &[u16],
-    events: &[Event],
+    events: &[Happening],
     strays: &[u8],
 ) -> Result<CompactReport, Fault>
     requires within { IsTrue (are_within (length strays.now) events.now) }

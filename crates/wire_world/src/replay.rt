@@ -5,13 +5,13 @@ ghost use Rattle.wire_world.specs.StageStands.{StageStands, LinkTells};
 ghost use Rattle.wire_world.specs.Stands.{AllAre, StrayFits};
 ghost use Rattle.wire_world.specs.Wanted.{AreUpTo};
 
-use crate::happening::Happening;
+use crate::incident::Incident;
 use crate::lows::lows;
 use crate::releasing::release;
 use crate::showing::show_all;
 use crate::stage::Stage;
 use crate::step::step;
-use crate::{CompactReport, Event};
+use crate::{CompactReport, Happening};
 use fade_core::Fader;
 use sacn_receiver::Receiver;
 use std::alloc::{AllocError, Global};
@@ -22,7 +22,7 @@ pub(crate) fn run<F: Fader>(
     stages: &mut [Stage<F>],
     receivers: &mut [Receiver],
     strays: &[u8],
-    events: &[Event],
+    events: &[Happening],
 ) -> Result<CompactReport, AllocError>
     requires within { All (λ e. StrayFits (length strays.now) e.what) events.now }
     requires wanted { All (λ stage. AreUpTo events.now stage.last) stages.old }
@@ -37,8 +37,8 @@ pub(crate) fn run<F: Fader>(
     let mut last = 0;
     for i in 0..events.len() {
         let event = events[i];
-        let happening = Happening { event, strays };
-        let reply = step(alloc, stages, receivers, &mut last, happening)?;
+        let incident = Incident { event, strays };
+        let reply = step(alloc, stages, receivers, &mut last, incident)?;
         release(stages, event.what, lows[i]);
         replies.push(reply)?;
     }

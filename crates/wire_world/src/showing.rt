@@ -1,5 +1,5 @@
 ghost use Rattle.std.specs.Prelude.{◌≡◌, List, IfOk};
-ghost use Rattle.wire_world.specs.declared.event.Event.{Event as EventData};
+ghost use Rattle.wire_world.specs.declared.happening.Happening.{Happening as EventData};
 ghost use Rattle.wire_world.specs.World.{World};
 ghost use Rattle.wire_world.specs.Replies.{last_event_moment, last_slots};
 ghost use Rattle.wire_world.specs.Stands.{AllBy, AllHear};

@@ -16,7 +16,7 @@ use crate::packets::Packets;
 use crate::shelf::Shelf;
 use crate::shelves::{keep_all, packet, release};
 use console::Console;
-use desk_core::{Command, Refused, Ticked};
+use desk_core::{Instruction, Refused, Ticked};
 use fade_core::Fader;
 use patch_core::RigFault;
 use sacn_source::Identity;
@@ -80,19 +80,19 @@ impl<F: Fader> Stage<F> {
         })
     }
 
-    // Carries out a command.
-    pub fn order(&mut self, moment: u64, command: Command) -> Result<(), Refused>
+    // Carries out an instruction.
+    pub fn order(&mut self, moment: u64, instruction: Instruction) -> Result<(), Refused>
         ensures still_tells { LinkTells self.old → LinkTells self.new }
         ensures answer { OfEach F.stands_for self.old (λ p history.
-            result ≡ outcome (refusal p.show history (order_at moment command)) tt) }
+            result ≡ outcome (refusal p.show history (order_at moment instruction)) tt) }
         ensures stands { OnOk result
-            (Leads F.stands_for (order_at moment command) self.old self.new) }
+            (Leads F.stands_for (order_at moment instruction) self.old self.new) }
         ensures gone { (u : ℕ)
             → gone_of self.new.shelves.items u ≡ gone_of self.old.shelves.items u }
         ensures last { self.new.last ≡ self.old.last }
         ensures unchanged { OnErr result (self.new ≡ self.old) }
     {
-        self.console.command(moment, command)
+        self.console.order(moment, instruction)
     }
 
     // Shows every universe anew, and sends what is due.

@@ -2,8 +2,8 @@ ghost use Rattle.wire_world.specs.StageStands.{StageStands, LinkTells};
 ghost use Rattle.std.specs.Prelude.{◌≡◌, ◌==◌, ℕ, List, IfOk, OnOk};
 ghost use Rattle.std.specs.Prelude.{if◌then◌else◌, Some, None};
 ghost use Rattle.std.specs.Option.{option_map_or};
-ghost use Rattle.wire_world.specs.declared.event.Event.{Event as EventData};
-ghost use Rattle.wire_world.specs.declared.event.What.TheVariants.{Order, Tick, Show};
+ghost use Rattle.wire_world.specs.declared.happening.Happening.{Happening as EventData};
+ghost use Rattle.wire_world.specs.declared.happening.Occurrence.TheVariants.{Order, Tick, Show};
 ghost use Rattle.wire_world.specs.declared.reply.Reply.TheVariants as reply;
 ghost use Rattle.wire_world.specs.World.{World};
 ghost use Rattle.wire_world.specs.Happened.{datagram_to};
@@ -16,7 +16,7 @@ use crate::answers::{datagram_reply, order_reply, tick_reply};
 use crate::compact_reply::{CompactReply, Kept};
 use crate::handover::Handover;
 use crate::stage::Stage;
-use desk_core::Command;
+use desk_core::Instruction;
 use fade_core::Fader;
 use sacn_receiver::Receiver;
 use std::alloc::{AllocError, Global};
@@ -25,24 +25,25 @@ pub(crate) fn order_at<F: Fader>(
     stages: &mut [Stage<F>],
     console: u16,
     moment: u64,
-    command: Command,
+    instruction: Instruction,
 ) -> CompactReply
     ensures tell { AllTell LinkTells stages.old → AllTell LinkTells stages.new }
     ensures spans { (i u : ℕ) → span_at stages.new i u ≡ span_at stages.old i u }
     ensures reply { (w : World) (past : List EventData) → ConsolesStand
         (StageStands F.stands_for) stages.old w past
-        → result ≡ option_map_or reply.Skipped (lack_skip w past (Order console command))
-        (event_reply w past moment (Order console command)) }
+        → result ≡ option_map_or reply.Skipped (lack_skip w past (Order console instruction))
+        (event_reply w past moment (Order console instruction)) }
     ensures stands { (w : World) (past : List EventData) → ConsolesStand
         (StageStands F.stands_for) stages.old w past
         → ConsolesStand (StageStands F.stands_for) stages.new w (unless_skipped (lack_skip w past
-        (Order console command)) (record { moment = moment; what = Order console command }) past) }
+        (Order console instruction))
+        (record { moment = moment; what = Order console instruction }) past) }
 {
     let i = usize::from(console);
     if i >= stages.len() {
         return CompactReply(Kept::Skipped(Skip::NoConsole));
     }
-    order_reply(stages[i].order(moment, command))
+    order_reply(stages[i].order(moment, instruction))
 }
 
 pub(crate) fn tick_at<F: Fader>(

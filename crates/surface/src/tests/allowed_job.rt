@@ -1,4 +1,10 @@
-//! As `allowed`: the variants of `Job`, also those of words that the specification does not have.
+//! `Job`, which may have variants beside those of the specification, for words that this does not
+//! have. Each stands in a line that ends with a mark. This takes them away, and then a tree that
+//! has such a variant does not compile:
+//!
+//! ```text
+//! sed -i '/ALLOWED$/d' allowed_job.rt
+//! ```
 
 use cmd_words::{Job, Name, read_words};
 use std::alloc::Global;

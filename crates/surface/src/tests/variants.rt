@@ -1,7 +1,6 @@
-//! A full match on each public enum: a variant more, fewer or renamed does not compile. The match
-//! on `Command`, which may have more, is in `allowed`.
+//! A full match on each public enum: a variant more, fewer or renamed does not compile.
 
-use desk_core::{Refused, Ticked};
+use desk_core::{Command, Refused, Ticked};
 use master_core::NoMaster;
 use patch_core::RigFault;
 use playback_core::NoMove;
@@ -52,6 +51,18 @@ fn rig_fault(fault: RigFault) -> u8 {
     match fault {
         RigFault::Universe => 1,
         RigFault::Memory => 2,
+    }
+}
+
+fn command(command: Command) -> u8 {
+    match command {
+        Command::Go => 1,
+        Command::Back => 2,
+        Command::Goto(_cue) => 3,
+        Command::Sub(_n, _byte) => 4,
+        Command::Group(_n, _byte) => 5,
+        Command::Master(_byte) => 6,
+        Command::End => 7,
     }
 }
 
@@ -123,4 +134,20 @@ fn each_enum(rt: HostRuntime) {
     assert!(rt; offered(Offered::Lost(5)) == (2, 5));
     assert!(rt; ignored(Ignored::Unreadable(Unreadable::Count)) == (2, 10));
     assert!(rt; ignored(Ignored::SourcesFull) == (7, 0));
+}
+
+#[test]
+fn each_command(rt: HostRuntime) {
+    let rows = [
+        Command::Go,
+        Command::Back,
+        Command::Goto(9_999_999),
+        Command::Sub(65535, 255),
+        Command::Group(65535, 255),
+        Command::Master(255),
+        Command::End,
+    ];
+    for (place, row) in rows.iter().enumerate() {
+        assert!(rt; usize::from(command(*row)) == place + 1);
+    }
 }

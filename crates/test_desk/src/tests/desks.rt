@@ -38,6 +38,7 @@ fn numbers<F: Fader>(desk: &Desk<F>) -> (usize, Option<u16>) {
 // A call with its answer, or what is seen after the calls so far.
 enum Step {
     Order(u64, Command, Result<(), Refused>),
+    GotoIn(u64, u32, u32, Result<(), Refused>),
     Tick(u64, Result<Ticked, Refused>),
     Slots(u8, u8),
     Current(Option<u32>),
@@ -46,6 +47,7 @@ enum Step {
 fn holds<F: Fader>(desk: &mut Desk<F>, step: &Step) -> bool {
     match step {
         Step::Order(moment, command, answer) => desk.command(*moment, *command) == *answer,
+        Step::GotoIn(moment, cue, time, answer) => desk.goto_in(*moment, *cue, *time) == *answer,
         Step::Tick(moment, answer) => desk.tick(*moment) == *answer,
         Step::Slots(first, second) => has_slots(desk, *first, *second),
         Step::Current(cue) => desk.current() == *cue,
@@ -172,21 +174,13 @@ fn goto_in_mid_fade(rt: HostRuntime) -> Result<(), Fail> {
         rt.alloc(),
         &[
             Step::Order(0, Command::Go, Ok(())),
-            Step::Order(
-                2500,
-                Command::GotoIn {
-                    cue: 2000,
-                    time: 8000,
-                },
-                Ok(()),
-            ),
+            Step::GotoIn(2500, 2000, 8000, Ok(())),
             Step::Tick(4500, Ok(Ticked::Live)),
             Step::Slots(96, 64),
-            Step::Order(
-                4500,
-                Command::GotoIn { cue: 3000, time: 0 },
-                Err(Refused::NoCue),
-            ),
+            Step::GotoIn(2499, 1000, 0, Err(Refused::Backwards)),
+            Step::GotoIn(4500, 3000, 0, Err(Refused::NoCue)),
+            Step::Order(4500, Command::End, Ok(())),
+            Step::GotoIn(4500, 1000, 0, Err(Refused::Ended)),
         ],
     )
 }

@@ -1,17 +1,17 @@
 use console::Call;
-use desk_core::Command;
+use desk_core::{Command, Instruction};
 use live_input::{Given, LiveInput, Reason};
 use std::process::Abort;
 
 const TICK: Call = Call::Tick;
 
-const GO: Call = Call::Order(Command::Go);
+const GO: Call = Call::Order(Instruction::Plain(Command::Go));
 
-const BACK: Call = Call::Order(Command::Back);
+const BACK: Call = Call::Order(Instruction::Plain(Command::Back));
 
-const DARK: Call = Call::Order(Command::Master(0));
+const DARK: Call = Call::Order(Instruction::Plain(Command::Master(0)));
 
-const END: Call = Call::Order(Command::End);
+const END: Call = Call::Order(Instruction::Plain(Command::End));
 
 // What comes while the input waits, or what it gives when it is asked; each at its moment.
 #[derive(Clone, Copy)]
@@ -124,10 +124,14 @@ fn ordinary_night(rt: HostRuntime) {
             Step::Line(50, TICK, b"50 tick\n"),
             Step::Line(
                 50,
-                Call::Order(Command::Sub(3, 128)),
+                Call::Order(Instruction::Plain(Command::Sub(3, 128))),
                 b"50 Sub 3 50 ! the desk\n",
             ),
-            Step::Line(51, Call::Order(Command::Master(128)), b"51 master H80\r\n"),
+            Step::Line(
+                51,
+                Call::Order(Instruction::Plain(Command::Master(128))),
+                b"51 master H80\r\n",
+            ),
             Step::Typed(60, b"end\n"),
             Step::Line(60, DARK, b"60 master 0\n"),
             Step::Typed(61, b"go\n"),

@@ -1,5 +1,5 @@
 use super::shows::{Part, add, show_of};
-use desk_core::{Command, Desk, ENDING_TICKS, Refused};
+use desk_core::{Command, Desk, ENDING_TICKS, Instruction, Refused};
 use fade_core::{Fader, PlainFader, StepFader};
 use show_core::{BuildFault, Show};
 use std::alloc::Global;
@@ -15,7 +15,7 @@ const MANY: u16 = 800;
 
 const TICK: u64 = 25;
 
-// Ticks behind each command: a fade takes two thirds of them.
+// Ticks behind each instruction: a fade takes two thirds of them.
 const TICKS: u64 = 60;
 
 // Of cue 1 and cue 3 one channel moves, and of cue 2, which cue 3 follows, more than are drawn one
@@ -45,30 +45,33 @@ fn night_show(alloc: Global) -> Result<Show, BuildFault> {
     Ok(show)
 }
 
-// Every command, and refused ones.
-const COMMANDS: &[(Command, Result<(), Refused>)] = &[
-    (Command::Back, Err(Refused::AtStart)),
-    (Command::Go, Ok(())),
-    (Command::Sub(1, 128), Ok(())),
-    (Command::Go, Ok(())),
-    (Command::Go, Err(Refused::AtEnd)),
-    (Command::Master(100), Ok(())),
-    (Command::Back, Ok(())),
-    (Command::Group(1, 255), Ok(())),
-    (Command::Goto(1000), Ok(())),
-    (Command::Goto(1500), Err(Refused::NoCue)),
+// Every instruction, and refused ones.
+const INSTRUCTIONS: &[(Instruction, Result<(), Refused>)] = &[
+    (Instruction::Plain(Command::Back), Err(Refused::AtStart)),
+    (Instruction::Plain(Command::Go), Ok(())),
+    (Instruction::Plain(Command::Sub(1, 128)), Ok(())),
+    (Instruction::Plain(Command::Go), Ok(())),
+    (Instruction::Plain(Command::Go), Err(Refused::AtEnd)),
+    (Instruction::Plain(Command::Master(100)), Ok(())),
+    (Instruction::Plain(Command::Back), Ok(())),
+    (Instruction::Plain(Command::Group(1, 255)), Ok(())),
+    (Instruction::Plain(Command::Goto(1000)), Ok(())),
+    (Instruction::Plain(Command::Goto(1500)), Err(Refused::NoCue)),
     (
-        Command::GotoIn {
+        Instruction::GotoIn {
             cue: 2000,
             time: 700,
         },
         Ok(()),
     ),
-    (Command::Sub(2, 1), Err(Refused::NoSub)),
-    (Command::Sub(1, 0), Ok(())),
-    (Command::Group(2, 1), Err(Refused::NoGroup)),
-    (Command::End, Ok(())),
-    (Command::Go, Err(Refused::Ended)),
+    (Instruction::Plain(Command::Sub(2, 1)), Err(Refused::NoSub)),
+    (Instruction::Plain(Command::Sub(1, 0)), Ok(())),
+    (
+        Instruction::Plain(Command::Group(2, 1)),
+        Err(Refused::NoGroup),
+    ),
+    (Instruction::Plain(Command::End), Ok(())),
+    (Instruction::Plain(Command::Go), Err(Refused::Ended)),
 ];
 
 // How many ticks were made, and how many of them changed a slot.
@@ -99,7 +102,7 @@ impl Seen {
     }
 }
 
-// Whether each command is answered so, with ticks behind each; and what was seen.
+// Whether each instruction is answered so, with ticks behind each; and what was seen.
 fn play<F: Fader>(desk: &mut Desk<F>) -> (bool, Seen) {
     let mut seen = Seen {
         ticks: 0,
@@ -107,8 +110,8 @@ fn play<F: Fader>(desk: &mut Desk<F>) -> (bool, Seen) {
         sum: 0,
     };
     let mut moment = 0u64;
-    for (command, answer) in COMMANDS {
-        if desk.command(moment, *command) != *answer {
+    for (instruction, answer) in INSTRUCTIONS {
+        if desk.order(moment, *instruction) != *answer {
             return (false, seen);
         }
         for _ in 0..TICKS {
@@ -130,7 +133,7 @@ fn play_between_lines<F: Fader, R: Print + Abort>(rt: &R, alloc: Global) -> Resu
     let (is_answered, seen) = play(&mut desk);
     println!(rt; "over")?;
     assert!(rt; is_answered);
-    // Fourteen commands come before `end`; behind it there are ticks for the end of the streams.
+    // Fourteen instructions come before `end`; behind it there are ticks for the end of the streams.
     assert!(rt; seen.ticks == 14 * TICKS + u64::from(ENDING_TICKS));
     // Some ticks are of a fade, and others of none.
     assert!(rt; seen.changes > 200 && seen.changes < 7 * TICKS);

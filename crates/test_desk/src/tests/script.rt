@@ -3,7 +3,7 @@ use cmd_rehearse::{Script, ScriptFault, read_script};
 use std::alloc::Global;
 use std::process::Abort;
 use std::test::Fail;
-use wire_world::{Event, What};
+use wire_world::{Happening, Occurrence};
 
 // What is read of a text. If an allocation failed, the answer is Memory, and the next reading
 // gives what the text says. No text of a test is longer than a script may be.
@@ -17,10 +17,10 @@ fn read(alloc: Global, text: &[u8]) -> Result<Script, ScriptFault> {
     }
 }
 
-fn stray(moment: u64, receiver: u16, from: u32, to: u32) -> Event {
-    Event {
+fn stray(moment: u64, receiver: u16, from: u32, to: u32) -> Happening {
+    Happening {
         moment,
-        what: What::Stray { receiver, from, to },
+        what: Occurrence::Stray { receiver, from, to },
     }
 }
 
@@ -60,6 +60,7 @@ fn forms_at_their_limits(rt: HostRuntime) {
             b"999999999999999 tick 65535",
             b"0 deliver 65535 65535 65535 999999999999999",
             b"0 do 65535 sub 65535 FL",
+            b"0 do 0 goto 4.5 in 99:59.99",
             b"0 slots 000000000",
             b"   ! a comment",
         ],
@@ -93,6 +94,7 @@ fn malformed_lines(rt: HostRuntime) {
             b"0 do 0",
             b"0 do 0 tick",
             b"0 do 0 go 1",
+            b"0 do 0 goto 4.5 in",
             b"0 do go",
             b"0 deliver 0 0 1",
             b"0 deliver 0 0 1 1000000000000000",

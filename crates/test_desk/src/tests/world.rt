@@ -1,10 +1,12 @@
+ghost use Rattle.std.specs.List.{list_all};
 ghost use Rattle.std.specs.Prelude.{◌≡◌};
 ghost use Rattle.wire_world.specs.Refusing.{are_within as are_within_size};
 ghost use Rattle.wire_world.specs.Refusing.{stray_fits as is_within_size};
+ghost use Rattle.wire_world.specs.Widened.{happenings, occurrence};
 
 use super::are_printed;
 use super::shows::{Part, TWO_CUES, show_with};
-use desk_core::{Command, Refused, Ticked};
+use desk_core::{Command, Instruction, Refused, Ticked};
 use fade_core::PlainFader;
 use sacn_packet::{SourceName, Unreadable};
 use sacn_receiver::Ignored;
@@ -13,7 +15,10 @@ use show_core::{BuildFault, Show};
 use std::alloc::{AllocError, Global};
 use std::process::Abort;
 use std::test::Fail;
-use wire_world::{Event, Fault, Offers, Reply, Report, Setup, Skip, What, laws, rehearse};
+use wire_world::{
+    Event, Fault, Happening, Occurrence, Offers, Reply, Report, Setup, Skip, What, laws, rehearse,
+    rehearse_compactly,
+};
 
 // Two cues; submaster 1 has channel 1 at half, and dimmers 1 and 2 are patched to channels 1 and 2
 // at full.
@@ -77,7 +82,7 @@ fn is_told(reply: &Reply, told: Told) -> bool {
 }
 
 fn is_within(event: &Event, size: usize) -> bool
-    ensures { result ≡ is_within_size size event.now.what }
+    ensures { result ≡ is_within_size size (occurrence event.now.what) }
 {
     match event.what {
         What::Stray { from, to, .. } => from <= to && to as usize <= size,
@@ -86,7 +91,13 @@ fn is_within(event: &Event, size: usize) -> bool
 }
 
 fn are_within(events: &[Event], size: usize) -> bool
-    ensures { result ≡ are_within_size size events.now }
+    ensures { result ≡ are_within_size size (happenings events.now) }
+{
+    all_fit(events, size)
+}
+
+fn all_fit(events: &[Event], size: usize) -> bool
+    ensures { result ≡ list_all (λ event. is_within_size size (occurrence event.what)) events.now }
 {
     events.iter().all(|event| is_within(event, size))
 }
@@ -204,6 +215,42 @@ const BASIC: &[Step] = &[
 fn rehearse_basic(rt: HostRuntime) -> Result<(), Fail> {
     let report = report_of(&rt, rt.alloc(), BASIC)?;
     assert!(rt; is_told_of(&report, BASIC, 102));
+    Ok(())
+}
+
+const fn happening(what: Occurrence) -> Happening
+    ensures { result ≡ record { moment = 7; what = what } }
+{
+    Happening { moment: 7, what }
+}
+
+// A script has what an `Event` has not: cue 1 over no time, in place of its five seconds.
+#[test]
+fn rehearse_goto_in(rt: HostRuntime) -> Result<(), Fail> {
+    let shows = [small_show(rt.alloc())?];
+    let consoles = [console(&rt)];
+    let goto_in = Instruction::GotoIn { cue: 1000, time: 0 };
+    let first = Occurrence::Deliver {
+        receiver: 0,
+        console: 0,
+        universe: 1,
+        k: 0,
+    };
+    let events = [
+        happening(Occurrence::Order(0, goto_in)),
+        happening(Occurrence::Tick(0)),
+        happening(first),
+    ];
+    let (alloc, receivers) = (rt.alloc(), [1]);
+    let report = rehearse_compactly::<PlainFader>(
+        alloc,
+        &shows,
+        &consoles,
+        &receivers,
+        &events,
+        &[],
+    )?;
+    assert!(rt; show_last(report.last.as_slice(), 255));
     Ok(())
 }
 

@@ -1,6 +1,8 @@
-use byte_reading::ShortLines;
-use byte_reading::memory::MemoryBlocks;
+ghost use Rattle.std.specs.Prelude.{◌≡◌, Some, true};
+
+use byte_reading::{BlockSource, ShortLines};
 use network_tables::{Cards, add_others, best_route, card_networks, next_neighbor, own_addresses};
+use std::io::ErrorKind;
 
 // A read puts at most so many bytes into a block.
 const SIZES: &[usize] = &[1, 3, 5000];
@@ -31,6 +33,34 @@ const TREE: &str = "Local:\n  +-- 0.0.0.0/0 3 0 5\n\
 const CARDS: &str = "Inter-|   Receive\n face |bytes    packets\n\
     \x20   lo:     100       1\n\
     \x20 eth1:     100       1\n";
+
+// A source whose text is known.
+#[derive(Drop)]
+struct MemoryBlocks<'a> {
+    // What is left of it.
+    text: &'a [u8],
+    // At most so many of its bytes are put into a block, and at least one.
+    most: usize,
+    // In place of its end, a read fails.
+    is_broken: bool,
+}
+
+impl BlockSource for MemoryBlocks<'_> {
+    ghost left = { λ m. Some m.text.now };
+
+    ghost may_fail = { λ m. m.is_broken ≡ true };
+
+    fn next_block(&mut self, block: &mut [u8]) -> Result<usize, ErrorKind> {
+        if self.is_broken && self.text.is_empty() {
+            return Err(ErrorKind::Other);
+        }
+        let count = self.most.max(1).min(self.text.len()).min(block.len());
+        let (front, rest) = self.text.split_at(count);
+        block[..count].copy_from_slice(front);
+        self.text = rest;
+        Ok(count)
+    }
+}
 
 fn read<'a>(text: &'a [u8], most: usize, is_broken: bool) -> ShortLines<MemoryBlocks<'a>> {
     ShortLines::new(MemoryBlocks {

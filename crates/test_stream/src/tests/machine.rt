@@ -1,6 +1,6 @@
 use devices::LinkFault;
 use live_machine::memory::{MemoryClock, MemoryInput};
-use live_machine::{Came, NightClock, NightInput, clock_law, reason};
+use live_machine::{Came, InputEnd, NightClock, NightInput, clock_law, reason};
 use std::io::ErrorKind;
 use std::time::Duration;
 
@@ -40,6 +40,18 @@ fn waits_end_at_what_is_due(rt: HostRuntime) {
             .zip(most.iter())
             .all(|(wait, most)| wait.most == *most)
     );
+}
+
+#[test]
+fn an_end_of_the_input_is_told_once(rt: HostRuntime) {
+    let mut end = InputEnd::new();
+    end.come(1000, false);
+    assert!(rt; !end.is_told(1249) && end.is_told(1250) && !end.is_told(1250));
+    end.come(2000, false);
+    end.pass_line(b"2100 end\n");
+    assert!(rt; !end.is_told(2250));
+    end.come(3000, true);
+    assert!(rt; !end.is_told(3250));
 }
 
 #[test]

@@ -1,5 +1,6 @@
+use super::memory_pipe::MemoryPipe;
 use devices::memory::Faults;
-use line_queue::{LineQueue, MemoryPipe, Notice};
+use line_queue::{LineOutput, LineQueue, Notice};
 use std::alloc::Global;
 use std::io::ErrorKind;
 use std::process::Abort;
@@ -31,6 +32,23 @@ fn lines_go_through(rt: HostRuntime) {
     queue.hand_on();
     assert!(rt; !queue.is_late() && queue.pipe.bytes.as_slice() == b"0 go\n23 tick\n".as_slice());
     assert!(rt; queue.bytes_taken() == 13 && queue.gaps() == 0 && queue.pipe.writes == 2);
+}
+
+// Lines that fit are kept where the pipe takes nothing, by an output as by its queue.
+#[test]
+fn lines_that_fit_are_kept(rt: HostRuntime) {
+    let faults = Faults::new(0, 0);
+    let mut output = LineOutput::open(queue_before(&rt, rt.alloc(), 0, faults, ErrorKind::Other));
+    for _ in 0..30 {
+        output.put(&[b'x'; 1000]);
+        output.take(&[b'y'; 1000]);
+    }
+    assert!(rt; output.is_late() && output.look().gaps == 0 && output.piped_bytes() == 0);
+    if let Some(queue) = &mut output.queue {
+        queue.pipe.room = 100_000;
+    }
+    output.finish();
+    assert!(rt; !output.is_late() && output.look().gaps == 0 && output.piped_bytes() == 60_000);
 }
 
 // Of 70 lines of 1,000 bytes the first 65 have room in a queue of 65,536 bytes whose pipe takes

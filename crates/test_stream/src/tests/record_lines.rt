@@ -1,6 +1,4 @@
-use devices::memory::Faults;
-use night_record::memory::MemoryRecord;
-use night_record::{LineFront, RecordKind, RecordLines, RecordRead, count_of_failed_read};
+use night_record::{LineFront, NightLines, RecordKind, RecordRead, count_of_failed_read};
 use std::io::ErrorKind;
 
 const TEXT: &[u8] = b"0 tick\n25 tick\n50 t";
@@ -9,19 +7,23 @@ fn is_text(line: Option<&LineFront>, text: &[u8]) -> bool {
     line.is_some_and(|line| line.as_slice() == text)
 }
 
+// Of a file the part of a line is read again, and of a FIFO it is not.
 #[test]
-fn lines_of_a_record_are_numbered(rt: HostRuntime) {
-    let faults = Faults::new(3, 1);
-    let mut lines = RecordLines::new(MemoryRecord::new(TEXT, 10, true, faults));
-    assert!(rt; lines.look() == Ok(true) && lines.number == 0);
-    assert!(rt; is_text(lines.next_line().as_ref(), b"0 tick") && lines.number == 1);
-    assert!(rt; lines.next_line().is_none() && lines.number == 1);
-    let second = lines.look_for_line().unwrap_or_default();
-    assert!(rt; is_text(second.as_ref(), b"25 tick") && lines.number == 2);
-    assert!(rt; lines.bytes_given() == 15);
-    assert!(rt; lines.next_line().is_none() && lines.look() == Ok(false));
-    assert!(rt; lines.next_line().is_none());
-    assert!(rt; lines.look_for_line().is_err() && lines.number == 2);
+fn lines_of_a_record_come_in_pieces(rt: HostRuntime) {
+    for is_file in &[true, false] {
+        let mut lines = NightLines::new();
+        assert!(rt; lines.next_place(*is_file) == Some(0));
+        lines.take_up(&TEXT[..10]);
+        assert!(rt; lines.has_line() && lines.next_place(*is_file).is_none());
+        assert!(rt; is_text(lines.next_line().as_ref(), b"0 tick"));
+        assert!(rt; lines.next_line().is_none() && !lines.has_line());
+        let place = if *is_file { 7 } else { 10 };
+        assert!(rt; lines.next_place(*is_file) == Some(place));
+        lines.take_up(&TEXT[place as usize..]);
+        assert!(rt; is_text(lines.next_line().as_ref(), b"25 tick") && !lines.has_line());
+        assert!(rt; lines.next_line().is_none() && lines.bytes_given() == 15);
+        assert!(rt; lines.rest().as_slice() == b"50 t".as_slice());
+    }
 }
 
 #[test]

@@ -4,26 +4,26 @@ use Rattle.cmd_play.proofs.performance.answer_call.Goals as goal
 
 pub returns-in-Ok-clause-stands : goal.returns-in-Ok-clause-stands
 returns-in-Ok-clause-stands g c = λ p h s.
-    let e = accepted (refusal p.show h (order_at c.args.moment c.in-Order.command)) _ tt
-    c.command.result c.in-Ok.is (c.command.ensures.answer p h s) in
+    let e = accepted (refusal p.show h (order_at c.args.moment c.in-Order.instruction)) _ tt
+    c.order.result c.in-Ok.is (c.order.ensures.answer p h s) in
     rw (c.in-Order.is, e) (c.in-Ok.ensures.stands p h s)
 
 pub returns-in-Err-clause-stands : goal.returns-in-Err-clause-stands
 returns-in-Err-clause-stands g c = λ p h s.
-    let e = refused (refusal p.show h (order_at c.args.moment c.in-Order.command)) _ tt
-    c.command.result c.in-Err.is (c.command.ensures.answer p h s) in
+    let e = refused (refusal p.show h (order_at c.args.moment c.in-Order.instruction)) _ tt
+    c.order.result c.in-Err.is (c.order.ensures.answer p h s) in
     rw (c.in-Order.is, e, c.in-Err.ensures.unchanged) s
 
 pub returns-in-Ok-clause-performed : goal.returns-in-Ok-clause-performed
 returns-in-Ok-clause-performed g c = λ p h s tells.
-    let e = accepted (refusal p.show h (order_at c.args.moment c.in-Order.command)) _ tt
-    c.command.result c.in-Ok.is (c.command.ensures.answer p h s) in
+    let e = accepted (refusal p.show h (order_at c.args.moment c.in-Order.instruction)) _ tt
+    c.order.result c.in-Ok.is (c.order.ensures.answer p h s) in
     rw c.in-Order.is (performed_quiet p h _ _ _ _ _ _ e refl refl refl)
 
 pub returns-in-Err-clause-performed : goal.returns-in-Err-clause-performed
 returns-in-Err-clause-performed g c = λ p h s tells.
-    let e = refused (refusal p.show h (order_at c.args.moment c.in-Order.command)) _ tt
-    c.command.result c.in-Err.is (c.command.ensures.answer p h s) in
+    let e = refused (refusal p.show h (order_at c.args.moment c.in-Order.instruction)) _ tt
+    c.order.result c.in-Err.is (c.order.ensures.answer p h s) in
     rw c.in-Order.is (performed_quiet p h _ _ _ _ _ _ e refl refl refl)
 
 pub returns-in-Ok-tick-clause-stands : goal.returns-in-Ok-tick-clause-stands

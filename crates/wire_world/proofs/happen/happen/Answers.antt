@@ -16,12 +16,12 @@ show_at-requires g c = c.requires.early
 pub overflow_cast-bytes : goal.overflow_cast-bytes
 overflow_cast-bytes g c = let within = rw c.in-Stray.is at c.requires.within in
     Fits-under w64 c.in-Stray.from (2 ^ 64)
-    (omega (arith, within.0, within.1, c.ranges.happening.0)) tt
+    (omega (arith, within.0, within.1, c.ranges.incident.0)) tt
 
 pub overflow_cast-bytes-in-Stray : goal.overflow_cast-bytes-in-Stray
 overflow_cast-bytes-in-Stray g c = let within = rw c.in-Stray.is at c.requires.within in
     Fits-under w64 c.in-Stray.to (2 ^ 64)
-    (omega (arith, within.0, within.1, c.ranges.happening.0)) tt
+    (omega (arith, within.0, within.1, c.ranges.incident.0)) tt
 
 pub slice_bounds-bytes-count : goal.slice_bounds-bytes-count
 slice_bounds-bytes-count g c = (rw c.in-Stray.is at c.requires.within).0
@@ -65,7 +65,7 @@ returns-in-Stray g c = record {
   spans = λ i u. refl;
   reply = λ w past same all tell hear. rw c.in-Stray.is (c.hear_at.ensures.reply w past hear
       ∙ ap (λ (s : List ℕ). option_map_or reply.Skipped (no_receiver_at w c.in-Stray.receiver)
-      (datagram_reply w c.in-Stray.receiver past c.args.happening.event.moment
+      (datagram_reply w c.in-Stray.receiver past c.args.incident.event.moment
       (slice_range s c.in-Stray.from c.in-Stray.to))) (sym same));
   stands = λ w past all. rw c.in-Stray.is (stand_same _ _ (λ j. refl) all);
   hear = λ w past same all tell hear. rw c.in-Stray.is (c.hear_at.ensures.hear w past _ hear

@@ -2,8 +2,9 @@ use Rattle.std.proofs.Common.{◌≡◌, ◌<◌, ◌∙◌, length, get_or, tak
 use Rattle.std.proofs.Common.{slice_index}
 use Rattle.wire_world.specs.Replies.{events_done, last_slots}
 use Rattle.desk_core.specs.declared.command.Command.TheVariants.{Go}
+use Rattle.desk_core.specs.declared.instruction.Instruction.TheVariants.{Plain}
 use Rattle.std.proofs.lemmas.List.{get_or_default, take_all}
-use Rattle.wire_world.proofs.Terms.{scaled_Fits, slice_get-get_or, slice_get_within, Event, Order}
+use Rattle.wire_world.proofs.Terms.{scaled_Fits, slice_get-get_or, slice_get_within, Happening, Order}
 use Rattle.wire_world.proofs.Events.{early, replayed_more}
 use Rattle.wire_world.proofs.Wants.{hold_first, hold_next}
 use Rattle.wire_world.proofs.replay.run.Goals as goal
@@ -27,8 +28,8 @@ loop-i-init g c =
 
 pub loop-i-preserved : goal.loop-i-preserved
 loop-i-preserved g c = (
-  (let event : Event = get_or c.args.events.now c.loop-i.i
-      (record { moment = 0; what = Order 0 Go }) in
+  (let event : Happening = get_or c.args.events.now c.loop-i.i
+      (record { moment = 0; what = Order 0 (Plain Go) }) in
       let low : c.index.result.now ≡ slice_index c.in_ok-lows.lows.items c.loop-i.i =
       c.index.ensures ∙ get_or_default c.in_ok-lows.lows.items c.loop-i.i c.index.result.now 0
       (omega (arith, c.in_ok-lows.ensures.each, c.loop-i-test.true)) in
@@ -76,7 +77,7 @@ returns g c = λ w same are. let all = c.loop-i.invariant.1 w same are in
       );
       last =
           c.in_ok-last.ensures w (events_done w (take c.loop-i.i events)) all.are.hear all.last_is
-          ∙ ap (λ (es : List Event). last_slots w (events_done w es))
+          ∙ ap (λ (es : List Happening). last_slots w (events_done w es))
           (take_all c.loop-i.i events (omega arith));
     }
 

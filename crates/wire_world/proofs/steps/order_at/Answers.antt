@@ -23,7 +23,7 @@ returns g c =
           ∙ told order_reply tt _);
       stands = λ w past all. rw c.from-i.ensures (
           stand_call all k _ at c.order.new.self (record { moment = c.args.moment; what = _ })
-          (order c.args.command) c.order.result (λ j. refl)
+          (order c.args.instruction) c.order.result (λ j. refl)
           (λ d h s. ap result_err (c.order.ensures.answer d h s) ∙ err_of _ _)
           c.order.ensures.stands
           (on_err_weaker c.order.result (λ same d h s. rw same s) c.order.ensures.unchanged));

@@ -1,5 +1,5 @@
 use Rattle.std.proofs.Common.{arith, refl}
-use Rattle.line_queue.proofs.Accounting.{none_more}
+use Rattle.line_queue.proofs.Accounting.{keeps_all, none_more}
 use Rattle.line_queue.proofs.queue.LineQueue.make_room.Goals as goal
 
 pub returns-then-has_room-clause-takes : goal.returns-then-has_room-clause-takes
@@ -12,4 +12,5 @@ returns-then-has_room-clause-takes g c = record {
     few = omega arith;
     short = omega arith;
   };
+  kept = λ _ room. keeps_all c.args.self.now _ _ _ refl room.none_dropped refl;
 }

@@ -1,4 +1,5 @@
 use Rattle.std.proofs.Common.{◌++◌, ◌∷◌, ◌∙◌, [], append-nil}
+use Rattle.line_queue.proofs.Accounting.{keeps_on}
 use Rattle.line_queue.proofs.Handed.{asked_twice, handed_behind}
 use Rattle.line_queue.proofs.queue.LineQueue.put.Goals as goal
 
@@ -18,6 +19,11 @@ returns-clause-puts g c =
             (took.stands told given stands));
         asks = λ tells. asked_twice old one new 16 16 (took.asks (handed.takes.told tells))
             (handed.takes.asks tells);
+        kept = λ tells there.
+            let told = handed.takes.told tells in
+            let room = (c.take.ensures.kept there).2 in
+            keeps_on c.args.line.now c.args.self.now c.take.new.self c.hand_on.new.self old one new
+            room.no_failure (took.kept told there) (handed.takes.kept tells room);
       };
       handed = λ tells. handed_behind c.hand_on.new.self old one new 16
           (took.asks (handed.takes.told tells)).no_fewer (handed.done tells);

@@ -1,5 +1,5 @@
-use Rattle.std.proofs.Common.{◌≡◌, ◌++◌, ◌∷◌, ◌∙◌, [], ap, append-nil, arith, is_some, refl, subst}
-use Rattle.std.proofs.Common.{sym}
+use Rattle.std.proofs.Common.{◌≡◌, ◌≤◌, ◌+◌, ◌++◌, ◌∷◌, ◌∙◌, [], ap, append-nil, arith}
+use Rattle.std.proofs.Common.{is_some, length, refl, subst, sym}
 use Rattle.std.proofs.lemmas.Grind.{common_steps}
 use Rattle.line_queue.specs.Handing.{AsksAtMost}
 use Rattle.line_queue.specs.Stands.{StandsFor, dropped_in, waiting_in}
@@ -16,6 +16,10 @@ returns-then-is_some-clause-takes g c =
           failed_more queue _ given (c.args.line.now ∷ []) (λ none. let e = ap is_some none in cc)
           (rw append-nil at (room.stands tells given stands));
       asks = room.asks;
+      kept = λ _ there.
+          let same = c.make_room.ensures.room there.fits in
+          let was = ap (λ q. is_some q.failure) same in
+          let none = ap is_some there.no_failure in absurd cc;
     }
 
 pub returns-then-can_keep-clause-takes : goal.returns-then-can_keep-clause-takes
@@ -33,6 +37,13 @@ returns-then-can_keep-clause-takes g c =
           c.args.line.now put refl refl none none
           (rw append-nil at (room.stands tells given stands));
       asks = room.asks;
+      kept = λ _ there.
+          let same = c.make_room.ensures.room there.fits in
+          let waited = waiting_in c.args.self.now ++ c.args.line.now in record {
+            left = waited;
+            whole = ap (λ q. (g.P.Pipe.tape q.pipe).taken ++ waited) same;
+            waits = λ _. (put ∙ ap (λ q. waiting_in q ++ c.args.line.now) same, none);
+          };
     }
 
 pub returns-else-can_keep-clause-takes : goal.returns-else-can_keep-clause-takes
@@ -50,4 +61,12 @@ returns-else-can_keep-clause-takes g c =
           (rw append-nil at (room.stands told given stands)));
       asks = λ tells. subst (λ t. AsksAtMost 16 0 before t) tape
           (room.asks (subst (λ p. g.P.Pipe.tells p) same tells));
+      kept = λ _ there.
+          let still = c.make_room.ensures.room there.fits in
+          let none : dropped_in c.make_room.new.self ≡ 0
+          = ap dropped_in still ∙ there.none_dropped in
+          let fits : length (waiting_in c.make_room.new.self) + length c.args.line.now ≤ 65536
+          = subst (λ q. length (waiting_in q) + length c.args.line.now ≤ 65536) (sym still)
+          there.fits in
+          absurd (grind (arith, common_steps));
     }

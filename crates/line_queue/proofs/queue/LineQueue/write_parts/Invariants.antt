@@ -1,5 +1,6 @@
 use Rattle.std.proofs.Common.{◌≡◌, ◌≤◌, ◌+◌, ◌*◌, []}
-use Rattle.line_queue.specs.Stands.{TakesMore, dropped_in, notice_in, waiting_in}
+use Rattle.line_queue.specs.Stands.{HasRoom, Keeps, TakesMore, dropped_in, notice_in}
+use Rattle.line_queue.specs.Stands.{waiting_in}
 use Rattle.line_queue.proofs.queue.LineQueue.write_parts.Given as goal
 
 -- so many parts were written, each after a wait
@@ -8,6 +9,9 @@ invariant-loop g l = record {
   told : g.P.Pipe.tells l.self.pipe → g.P.Pipe.tells l.initial.self.pipe;
   stands : g.P.Pipe.tells l.self.pipe → TakesMore [] l.initial.self
       (g.P.Pipe.tape l.initial.self.pipe) l.self (g.P.Pipe.tape l.self.pipe);
+  kept : g.P.Pipe.tells l.self.pipe → HasRoom l.initial.self []
+      → Keeps [] l.initial.self (g.P.Pipe.tape l.initial.self.pipe) l.self
+      (g.P.Pipe.tape l.self.pipe);
   writes : g.P.Pipe.tells l.self.pipe → (g.P.Pipe.tape l.self.pipe).writes
       ≡ (g.P.Pipe.tape l.initial.self.pipe).writes + l.counter;
   wait : g.P.Pipe.tells l.self.pipe → (g.P.Pipe.tape l.self.pipe).wait

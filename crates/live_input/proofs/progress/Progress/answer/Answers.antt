@@ -19,7 +19,7 @@ given_line-requires-clause-spells c =
     let meets = subst (λ (r : Request). Meets c.is_on.result c.args.now line r)
     (sym c.in-Order.ensures) (request_meets c.is_on.result c.args.now line) in
     rw (c.as_slice-text.ensures.value, c.without_keys-text.ensures)
-    (call_is (words_of (without_keys line)) c.in-Order.command meets.2)
+    (call_is (words_of (without_keys line)) c.in-Order.instruction meets.2)
 
 pub returns-in-Leave-clause-leaves : goal.returns-in-Leave-clause-leaves
 returns-in-Leave-clause-leaves c = λ given leaves.

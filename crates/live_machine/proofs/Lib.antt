@@ -1,4 +1,0 @@
-mod BoothOrder
-pub mod InTurn
-pub mod NightLaws
-pub mod NightOrder
