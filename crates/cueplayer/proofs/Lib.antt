@@ -1,5 +1,6 @@
 pub mod Sources
 pub mod Playing
+pub mod Addresses
 pub mod Receipts
 pub mod Restarting
 pub mod TakingOver

@@ -5,3 +5,4 @@ pub mod Laws
 pub mod Restarts
 pub mod Programs
 pub mod OldShows
+pub mod Addresses

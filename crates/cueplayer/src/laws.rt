@@ -15,6 +15,8 @@
 //! Outside the laws: that anything arrives; what is shown outside the window, or while a stranger
 //! is heard; and that sockets, cables and nodes carry what they are handed.
 
+ghost use Rattle.cueplayer.specs.Addresses.{AddressesGetTheStream, NightsAreAddressed};
+ghost use Rattle.cueplayer.specs.Addresses.{PlaysAreAddressed};
 ghost use Rattle.cueplayer.specs.Laws.{Headline, MergeLaw, SendsAreAddressed, SendsAreTheStream};
 ghost use Rattle.cueplayer.specs.Laws.{SendsStay, SilenceIsDark, UnpatchedSlotsAreZero};
 ghost use Rattle.cueplayer.specs.Laws.{WindowLaw};
@@ -81,6 +83,16 @@ pub fn consoles_take_over()
 pub fn sends_are_the_stream()
     ensures stream { SendsAreTheStream }
     ensures addressed { SendsAreAddressed }
+{}
+
+/// Over a link to targets the sends of a play go to all addresses of their universes, in order, and
+/// to no other; so each address of a universe is sent the stream of that universe (`streams`),
+/// whatever `play` did (`plays`) and whatever a live night did (`nights`), and whatever failed.
+#[tactic(auto, using(crate::proofs::Addresses::plays_addressed))]
+pub fn addresses_get_the_stream<R: Feed>(_input: &R)
+    ensures streams { AddressesGetTheStream }
+    ensures plays { PlaysAreAddressed (R.ended _input.now) }
+    ensures nights { NightsAreAddressed }
 {}
 
 /// The promise: a receiver that hears one play alone, and to which that play is fresh, shows what

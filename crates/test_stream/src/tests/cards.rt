@@ -71,7 +71,7 @@ fn cards_that_are_down_are_hidden(rt: HostRuntime) {
 // By how many of three cards at its network it is looked for whose card an address is; the card
 // that the system sends from it by, if any, and the address that it sends from at all; and the card
 // that is found.
-type Held = (usize, &'static str, [u8; 4], Option<&'static str>);
+type Held = (usize, Option<&'static str>, [u8; 4], Option<&'static str>);
 
 fn networks() -> [Route; 3] {
     [route("eth0"), route("eth1"), route("eth2")]
@@ -86,9 +86,12 @@ fn route(card: &str) -> Route {
     }
 }
 
-fn held_by(count: usize, by: &str, source: [u8; 4]) -> Option<CardName> {
+fn held_by(count: usize, by: Option<&str>, source: [u8; 4]) -> Option<CardName> {
     let mut asked = Cards::new();
-    asked.add(Some(name(by)), Some(OWN));
+    match by {
+        Some(by) => asked.add(Some(name(by)), Some(OWN)),
+        None => asked.add(Some(name("eth0")), Some(OTHER)),
+    }
     match holder_of(OWN, &networks()[..count.min(3)]) {
         Holder::Card(card) => Some(card),
         Holder::OneOf { first, other, .. } => {
@@ -110,14 +113,14 @@ fn is_held(row: &Held) -> bool {
 #[test]
 fn the_card_at_the_network_is_found(rt: HostRuntime) {
     let rows = &[
-        (0, "eth0", OWN, None),
-        (1, "eth1", OTHER, Some("eth0")),
-        (2, "eth1", OWN, Some("eth1")),
+        (0, Some("eth0"), OWN, None),
+        (1, Some("eth1"), OTHER, Some("eth0")),
+        (2, Some("eth1"), OWN, Some("eth1")),
         // By no card: the first, or of two the other.
-        (2, "wlan0", OWN, Some("eth0")),
-        (2, "wlan0", OTHER, Some("eth1")),
-        (3, "eth2", OTHER, Some("eth2")),
-        (3, "wlan0", OTHER, None),
+        (2, None, OWN, Some("eth0")),
+        (2, None, OTHER, Some("eth1")),
+        (3, Some("eth2"), OTHER, Some("eth2")),
+        (3, None, OTHER, None),
     ];
     for row in rows {
         assert!(rt; is_held(row));
