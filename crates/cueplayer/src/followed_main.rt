@@ -1,4 +1,4 @@
-ghost use Rattle.std.specs.Prelude.{OnOk};
+ghost use Rattle.std.specs.Prelude.{OnOk, length, ◌≤◌};
 ghost use Rattle.cmd_live.specs.Beginning.{CanFollow};
 
 use crate::leading::Following;
@@ -94,8 +94,10 @@ impl EndedMain<'_> {
         self.lead
     }
 
-    /// Why it is followed no more, in words.
-    pub fn words(&self) -> &'static str {
+    /// Why it is followed no more, in at most 40 bytes of words.
+    pub fn words(&self) -> &'static str
+        ensures { length result.now ≤ 40 }
+    {
         self.main.ending.words()
     }
 

@@ -88,7 +88,6 @@ pub fn sends_are_the_stream()
 /// Over a link to targets the sends of a play go to all addresses of their universes, in order, and
 /// to no other; so each address of a universe is sent the stream of that universe (`streams`),
 /// whatever `play` did (`plays`) and whatever a live night did (`nights`), and whatever failed.
-#[tactic(auto, using(crate::proofs::Addresses::plays_addressed))]
 pub fn addresses_get_the_stream<R: Feed>(_input: &R)
     ensures streams { AddressesGetTheStream }
     ensures plays { PlaysAreAddressed (R.ended _input.now) }
