@@ -8,6 +8,7 @@ import os
 import re
 import time
 
+from cueplayer_tools.keeper.catching_up import CatchingUp
 from cueplayer_tools.keeper.commands import ask
 from cueplayer_tools.keeper.folder import Folder
 from cueplayer_tools.keeper.own_record import FULL
@@ -55,8 +56,10 @@ class Health:
         self.trouble: list[Trouble] = []
         self.place: str | None = None
         if self.live is not None:
+            works = CatchingUp(self.spare or 0)
             self._look_at_live(self.live)
-            self._look_at_others()
+            self._look_at_spare(works)
+            self._look_at_keeper()
         story = read_story(folder)
         self.restarts, self.events = story.restarts, story.events
         if self.live is not None and story.lost is not None and self._is_lately(story.lost):
@@ -93,14 +96,22 @@ class Health:
         elif self.place is None and state_of(live):
             self.trouble.append(Trouble(OTHER, None, f"{named} does not answer"))
 
-    def _look_at_others(self) -> None:
+    def _look_at_spare(self, works: CatchingUp) -> None:
         if self.spare is None:
             self.trouble.append(Trouble(SPARE, None, "no spare stands by"))
-        elif state_of(self.spare) in ("T", "t") or not reads_record(self.folder, self.spare):
-            why = "it is just started, or stands still"
-            told = f"the spare (process {self.spare}) does not read the record: {why}"
-            self.trouble.append(Trouble(SPARE, None, told))
-            self.spare = None
+            return
+        named = f"the spare (process {self.spare})"
+        time.sleep(works.left())
+        if state_of(self.spare) in ("T", "t") or not reads_record(self.folder, self.spare):
+            told = f"{named} does not read the record: it is just started, or stands still"
+        elif works.is_so():
+            told = f"{named} still takes up the record: if live dies now, the light waits for that"
+        else:
+            return
+        self.trouble.append(Trouble(SPARE, None, told))
+        self.spare = None
+
+    def _look_at_keeper(self) -> None:
         start = f"`cueplayer-night {self.folder.path} start` takes hold of it"
         if self.keeper is None:
             self.trouble.append(Trouble(KEEPER, None, f"nothing keeps it going: {start}"))

@@ -7,6 +7,7 @@ import signal
 import time
 from collections.abc import Callable
 
+from cueplayer_tools.keeper.catching_up import CatchingUp
 from cueplayer_tools.keeper.endings import Pace
 from cueplayer_tools.keeper.folder import Folder
 from cueplayer_tools.keeper.locks import find_holder, is_locked
@@ -20,6 +21,8 @@ _GOES_ON = re.compile(rb"^record: .*, goes on at ", re.MULTILINE)
 # For how long a spare may take to go on once nobody else has the record, in seconds; from when on
 # it is told that somebody has.
 _PATIENCE, _TOLD = 3.0, 1.0
+# For how long it may take up a record that is long, in seconds: a start would begin with that anew.
+_LONGEST = 120.0
 # What the system says of a process that was stopped or is traced, and how long one may stay so that
 # is to go on, in seconds.
 _STOPPED, _LONGEST_STOP = ("T", "t"), 0.3
@@ -131,12 +134,15 @@ class Spare:
 
     def await_light(self, gone: int) -> bool:
         """Waits until it goes on with the night, or has ended as the night has; whether it goes
-        on. One that does neither is ended; but what wrote the record for a `live` that is gone may
-        wait for the disk, and so does the spare."""
+        on. One that does neither is ended, unless it still takes up the record; but what wrote that
+        for a `live` that is gone may wait for the disk, and so does the spare."""
         began = until = time.monotonic()
         is_told = False
+        works = CatchingUp(0 if self.process is None else self.process.number)
         while self.process is not None and time.monotonic() < until + _PATIENCE:
             has_ended = self.process.has_ended()
+            if works.was_so() and time.monotonic() < began + _LONGEST:
+                until = time.monotonic()
             if self._has_told():
                 # The next one stands by at once.
                 self.pace = Pace()
