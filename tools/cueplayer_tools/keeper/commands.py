@@ -49,6 +49,7 @@ def _lines_behind(folder: Folder, start: int, until: float) -> Iterator[bytes]:
     """The lines that come into the replies behind so many bytes, until then."""
     rest = b""
     while time.monotonic() < until:
+        start = folder.place_in("replies", start)
         part = folder.read("replies", start, _MOST)
         start += len(part)
         *lines, rest = (rest + part).split(b"\n")

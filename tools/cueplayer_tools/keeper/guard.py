@@ -8,6 +8,7 @@ import time
 from collections.abc import Callable
 
 from cueplayer_tools.keeper.folder import Folder
+from cueplayer_tools.keeper.folder_again import FolderAgain
 from cueplayer_tools.keeper.own_record import FULL, why_not
 from cueplayer_tools.keeper.players import find_writer
 from cueplayer_tools.keeper.processes import Process, Starter
@@ -30,10 +31,11 @@ class Guard:
     """Looks at the `live` that plays."""
 
     def __init__(
-        self, folder: Folder, starter: Starter, spare: Spare, unread: Unread,
-        tell: Callable[[str], None],
+        self, folder: Folder, starter: Starter, spare: Spare, folder_again: FolderAgain,
+        unread: Unread, tell: Callable[[str], None],
     ) -> None:  # fmt: skip
         self.folder, self.starter, self.spare = folder, starter, spare
+        self.folder_again = folder_again
         self.unread, self.tell = unread, tell
         self.watch: Watch | None = None
         self.writers: WriterWatch | None = None
@@ -57,6 +59,7 @@ class Guard:
             if watch.ticks:
                 self.service.tick(self._words(watch.number))
             self._judge_name(watch)
+            self._judge_files(watch.number)
             if self.writers is not None:
                 self.writers.look()
             self._judge_process(watch, may_end)
@@ -128,6 +131,12 @@ class Guard:
                 self.tell(f"{told}: {why_not(fault)}; no spare stands by")
             return
         self.tell(told)
+
+    def _judge_files(self, live: int) -> None:
+        spare = self.spare.process
+        told = self.folder_again.look(live, None if spare is None else spare.number)
+        if told is not None:
+            self.tell(told)
 
     def _judge_record(self, watch: Watch) -> None:
         if watch.was_cut and not self.is_cut:

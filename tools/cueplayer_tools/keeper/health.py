@@ -4,6 +4,7 @@ What leaves the machine is not seen here. That `live` sends is told from its rec
 tick stands before it is carried out, and from its own lines on cards, routes and lost packets.
 """
 
+import contextlib
 import os
 import re
 import time
@@ -21,6 +22,7 @@ from cueplayer_tools.keeper.players import (
 )
 from cueplayer_tools.keeper.stand_still import work_of
 from cueplayer_tools.keeper.states import state_of
+from cueplayer_tools.keeper.streams import Failure
 from cueplayer_tools.keeper.troubles import (
     KEEPER,
     LATELY,
@@ -75,7 +77,9 @@ class Health:
         """Looks whether it plays: whether its record grows, and whether it answers."""
         size, work = self.folder.size("record"), work_of(live)
         until = time.monotonic() + _PATIENCE
-        self.place = ask(self.folder, "where")
+        # Without a FIFO nobody is asked.
+        with contextlib.suppress(Failure):
+            self.place = ask(self.folder, "where")
         while self.folder.size("record") == size and time.monotonic() < until:
             time.sleep(_LOOK_EVERY)
         named = f"live (process {live})"
@@ -93,6 +97,10 @@ class Health:
         elif free_room(self.folder) < FULL:
             told = "the disk of the night is full: make room"
             self.trouble.append(Trouble(RECORD, None, told))
+        elif self.place is None and not self.folder.is_fifo():
+            gone = f"{self.folder.file('in')} is gone: `start` puts it back"
+            told = f"no line comes to {named}, as {gone}"
+            self.trouble.append(Trouble(OTHER, None, told))
         elif self.place is None and state_of(live):
             self.trouble.append(Trouble(OTHER, None, f"{named} does not answer"))
 

@@ -23,6 +23,8 @@ _GOES_ON = re.compile(rb"^record: .*, goes on at ", re.MULTILINE)
 _PATIENCE, _TOLD = 3.0, 1.0
 # For how long it may take up a record that is long, in seconds: a start would begin with that anew.
 _LONGEST = 120.0
+# In so many seconds there is a tick in the record of one that plays.
+_SOME_TICKS = 0.2
 # What the system says of a process that was stopped or is traced, and how long one may stay so that
 # is to go on, in seconds.
 _STOPPED, _LONGEST_STOP = ("T", "t"), 0.3
@@ -107,6 +109,7 @@ class Spare:
     def _has_told(self) -> bool:
         """Whether it told that it goes on. `live` has written to the same replies up to its
         end."""
+        self.mark = self.folder.place_in("replies", self.mark)
         while part := self.folder.read("replies", self.mark, _PART):
             if _GOES_ON.search(part):
                 return True
@@ -114,6 +117,13 @@ class Spare:
                 break
             self.mark += _PART - _OVERLAP
         return False
+
+    def _plays(self, number: int) -> bool:
+        """Whether the record grows under its lock: what it told may be gone with the replies."""
+        size = self.folder.size("record")
+        time.sleep(_SOME_TICKS)
+        is_its = find_holder(self.folder.file("record")) == number
+        return is_its and self.folder.size("record") > size
 
     def _is_held_by_another(self, number: int) -> bool:
         """Whether the record's lock is not this spare's. A process that is gone may not be named
@@ -158,6 +168,9 @@ class Spare:
                     told = "the record is still written for a live that is gone"
                     self.tell(f"{told}: the disk stalls, or is slow; the spare waits for it")
             wait_for(self.process.descriptors(), LOOK_EVERY / 2)
+        else:
+            if self.process is not None and self._plays(self.process.number):
+                return True
         self.put_down()
         return False
 
