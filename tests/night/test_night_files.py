@@ -5,12 +5,16 @@ import os
 import shutil
 import signal
 import stat
+import unittest
+from types import SimpleNamespace
 
 from kept_nights import RefusedTest
 from tooling import wait_for
 from wire import SEQUENCE
 
 from cueplayer_tools.keeper.folder import Folder
+from cueplayer_tools.keeper.folder_again import FolderAgain
+from cueplayer_tools.keeper.guard import Guard
 from cueplayer_tools.keeper.show_copy import COPY
 
 PUT_BACK = "gone from the folder of the night, and put back: "
@@ -128,6 +132,20 @@ class Removed(Files):
         self.assertEqual(0, status, out)
         self.assertIn(f"takes hold of the night: live (process {live}) plays", out)
         self.assertCommanded(200)
+
+
+class Unseen(unittest.TestCase):
+    def test_folder_that_is_not_there(self):
+        """Who cannot look tells it once, and keeps the night."""
+        told = []
+        folder = Folder("/nonexistent/night")
+        again = FolderAgain(folder, [], None)
+        nothing = SimpleNamespace(process=None, is_held=False)
+        guard = Guard(folder, None, nothing, again, None, told.append)
+        for _ in range(3):
+            guard.look(SimpleNamespace(number=os.getpid()), True)
+        self.assertEqual(1, len(told))
+        self.assertIn(f"cannot see how live (process {os.getpid()}) is: No such file", told[0])
 
 
 class Replies(Files):

@@ -99,6 +99,25 @@ class Stands(RefusedTest):
         self.assertEqual(live, self.number("pid"))
         self.assertNotIn("stands still", self.replies())
 
+    def test_ticks_that_were_late(self):
+        """It is told afterwards for how long none came, also where the keeper stood still too, and
+        again where that was longer."""
+        live, _, keeper = self.begin_in_cue_1()
+        for number in (live, keeper):
+            self.keep_going(number)
+        told = rf"live \(process {live}\) made no tick for (\d+\.\d) s: is the machine too busy\?$"
+        for times, seconds in ((1, 1.2), (2, 2.2)):
+            stand_still(keeper)
+            stand_still(live)
+            stopped = time.monotonic()
+            self.stay(seconds)
+            least = time.monotonic() - stopped
+            os.kill(live, signal.SIGCONT)
+            self.stay(0.2)
+            os.kill(keeper, signal.SIGCONT)
+            self.assertGreater(float(self.wait_for_reply(told, times)[-1]), least - 0.1)
+        self.assertEqual(live, self.number("pid"))
+
     def test_record_that_stalls(self):
         """Whoever writes it waits for the disk: `live` plays on, and the spare stands by."""
         live, spare, _ = self.begin_in_cue_1()

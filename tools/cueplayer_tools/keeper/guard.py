@@ -21,7 +21,7 @@ from cueplayer_tools.keeper.unread import Unread
 from cueplayer_tools.keeper.writer_watch import WriterWatch
 from cueplayer_tools.keeper.writers import NO_ROOM
 
-# How often it is told at most that ticks were late, in seconds.
+# How often it is told at most that ticks were late, if no later than before, in seconds.
 _LATE_EVERY = 60.0
 # How fast a record grows, in bytes a minute.
 _EACH_MINUTE = 33_000
@@ -39,17 +39,29 @@ class Guard:
         self.unread, self.tell = unread, tell
         self.watch: Watch | None = None
         self.writers: WriterWatch | None = None
-        self.told_late = -_LATE_EVERY
+        self.told_late, self.latest = -_LATE_EVERY, 0.0
         # Whether it was told that `live` stands still, that the record does not grow, that it was
         # cut, that it has lost its name, and that its disk is full.
         self.is_still = self.is_broken = self.is_cut = self.is_lost = self.is_full = False
         # Whether lines are missing in a record that does not grow, if `live` dies.
         self.is_stale = False
+        # Whether it was told that a look failed.
+        self.is_blind = False
         self.service = Service()
 
     def look(self, live: Process, may_end: bool) -> None:
         """Looks at it, as often as once in a tenth of a second; one that stands still is ended
-        where that may be."""
+        where that may be. Who sees nothing keeps the night all the same."""
+        try:
+            self._look(live, may_end)
+            self.is_blind = False
+        except OSError as fault:
+            if not self.is_blind:
+                self.is_blind = True
+                told = f"cannot see how live (process {live.number}) is: {reason(fault)}"
+                self.tell(f"{told}; if it dies, the night goes on all the same")
+
+    def _look(self, live: Process, may_end: bool) -> None:
         watch = self.watch
         if watch is None or watch.number != live.number:
             self._begin(live.number)
@@ -81,9 +93,10 @@ class Guard:
 
     def _begin(self, number: int) -> None:
         """Begins to look at another one."""
+        watch = Watch(self.folder, number)
         if self.watch is not None:
             self.watch.close()
-        self.watch = Watch(self.folder, number)
+        self.watch = watch
         self.writers = WriterWatch(self.starter, number, self.tell)
         self.is_still = self.is_broken = self.is_cut = self.is_lost = self.is_stale = False
         self.spare.is_held = False
@@ -100,9 +113,13 @@ class Guard:
         elif self.is_still and not watch.stands_still():
             self.is_still = False
             self.tell(f"{live} runs again")
-        elif watch.was_late() and watch.looked - self.told_late >= _LATE_EVERY:
-            self.told_late = watch.looked
+        elif watch.was_late() and self._is_news(watch):
+            self.told_late, self.latest = watch.looked, watch.late
             self.tell(f"{live} made no tick for {watch.late:.1f} s: is the machine too busy?")
+
+    def _is_news(self, watch: Watch) -> bool:
+        """Whether it is told that ticks were late."""
+        return watch.late > self.latest or watch.looked - self.told_late >= _LATE_EVERY
 
     def _end(self, live: str, number: int) -> None:
         """Ends it, so that the spare goes on. A press that it has not read is not carried out
