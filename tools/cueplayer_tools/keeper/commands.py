@@ -58,19 +58,24 @@ def _lines_behind(folder: Folder, start: int, until: float) -> Iterator[bytes]:
             time.sleep(_READ_EVERY)
 
 
-def _print_answer(folder: Folder, word: str, start: int) -> int:
+def _print_answer(folder: Folder, line: str, start: int, recorded: int) -> int:
     """Prints the answer to a command from what comes, up to the cue of a move, or to the end of a
-    night; its status."""
-    status = None
-    for line in _lines_behind(folder, start, time.monotonic() + _PATIENCE):
-        if not _is_answer(word, line):
+    night; its status. Where none comes, the record may have the command."""
+    status, word = None, line.partition(" ")[0]
+    for each in _lines_behind(folder, start, time.monotonic() + _PATIENCE):
+        if not _is_answer(word, each):
             continue
-        show(line + b"\n")
-        if _is_refusal(line):
+        show(each + b"\n")
+        if _is_refusal(each):
             return 1
         status = 0
-        if word not in _MOVES + _ENDS or not line.endswith(b" ok"):
+        if word not in _MOVES + _ENDS or not each.endswith(b" ok"):
             return status
+    if status is None:
+        # What few commands want, the others need not read.
+        from cueplayer_tools.keeper.taken import tell_taken
+
+        status = tell_taken(folder, line, recorded)
     if status is None:
         complain("no answer within a second: `where` says what was carried out")
         return 1
@@ -122,9 +127,9 @@ def command_night(folder: Folder, line: str) -> int:
     turn = _open_turn(folder)
     try:
         _await_turn(turn)
-        start = folder.size("replies")
+        start, recorded = folder.size("replies"), folder.size("record")
         if _give_soon(folder, line):
-            return _print_answer(folder, line.partition(" ")[0], start)
+            return _print_answer(folder, line, start, recorded)
     finally:
         os.close(turn)
     told = f"no live plays the night in {folder.path}: nothing was sent"

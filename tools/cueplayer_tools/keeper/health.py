@@ -13,6 +13,7 @@ from cueplayer_tools.keeper.catching_up import CatchingUp
 from cueplayer_tools.keeper.commands import ask
 from cueplayer_tools.keeper.folder import Folder
 from cueplayer_tools.keeper.own_record import FULL
+from cueplayer_tools.keeper.pipes import REPLIES, LivePipes
 from cueplayer_tools.keeper.players import (
     find_keeper,
     find_live,
@@ -21,7 +22,7 @@ from cueplayer_tools.keeper.players import (
     reads_record,
 )
 from cueplayer_tools.keeper.stand_still import work_of
-from cueplayer_tools.keeper.states import state_of
+from cueplayer_tools.keeper.states import name_of, state_of
 from cueplayer_tools.keeper.streams import Failure
 from cueplayer_tools.keeper.troubles import (
     KEEPER,
@@ -33,6 +34,7 @@ from cueplayer_tools.keeper.troubles import (
     Trouble,
     read_story,
 )
+from cueplayer_tools.keeper.writers import NO_ANSWERS
 
 # The exit status of each kind of trouble, the worst first.
 STATUSES = {LIGHT: 3, RECORD: 4, SPARE: 5, KEEPER: 6, OTHER: 7}
@@ -102,7 +104,8 @@ class Health:
             told = f"no line comes to {named}, as {gone}"
             self.trouble.append(Trouble(OTHER, None, told))
         elif self.place is None and state_of(live):
-            self.trouble.append(Trouble(OTHER, None, f"{named} does not answer"))
+            told = why_unanswered(live) or f"{named} does not answer"
+            self.trouble.append(Trouble(OTHER, None, told))
 
     def _look_at_spare(self, works: CatchingUp) -> None:
         if self.spare is None:
@@ -159,6 +162,16 @@ class Health:
             "trouble": [each._asdict() for each in self.trouble],
             "last": self.events,
         }
+
+
+def why_unanswered(live: int) -> str | None:
+    """Why no answers come; None where they would be written."""
+    writer = LivePipes(live).find_writer(REPLIES)
+    name = "" if writer is None else name_of(writer)
+    if not name.startswith(NO_ANSWERS):
+        return None
+    why = os.strerror(int(name[len(NO_ANSWERS) :]))
+    return f"answers cannot be written: {why}; make room: commands are carried out all the same"
 
 
 def free_room(folder: Folder) -> int:
