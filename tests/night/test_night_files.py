@@ -87,7 +87,7 @@ class Removed(Files):
         self.begin()
         (self.night / "in").unlink()
         (self.night / "in").write_bytes(b"go\n")
-        self.wait_for_reply(f"{PUT_BACK}in$")
+        self.wait_for_reply(rf"{PUT_BACK}in \(what was in its place is kept as in-replaced-")
         (kept,) = self.night.glob("in-replaced-*")
         self.assertEqual(b"go\n", kept.read_bytes())
         self.assertEqual((0, ["where cue 1 next 2 master 255"]), self.without_moments("where"))
@@ -107,6 +107,25 @@ class Removed(Files):
         self.assertGoesOn(200)
         self.assertNumbered(self.numbers)
         self.assertTrue(stat.S_ISFIFO(os.lstat(self.night / "in").st_mode))
+
+    def test_show_that_is_replaced(self):
+        """As by who takes the copy for the show that is edited: it is kept, and the night plays its
+        own."""
+        self.begin()
+        show, other = self.content(COPY), b"CUE 1\n"
+        self.show.write_bytes(other)
+        shutil.copyfile(self.show, self.night / COPY)
+        self.wait_for_reply(rf"{PUT_BACK}show \(what was in its place is kept as show-replaced-")
+        self.assertEqual(show, self.content(COPY))
+        (kept,) = self.night.glob("show-replaced-*")
+        self.assertEqual(other, kept.read_bytes())
+        live, spare = self.number("pid"), self.spare()
+        for number in (spare, live):
+            os.kill(number, signal.SIGKILL)
+        self.wait_for_reply("it is started again, and goes on where it was$")
+        self.numbers += self.wait_for_level(128)
+        self.assertNumbered(self.numbers)
+        self.assertNotIn("another show", self.replies())
 
     def test_folder(self):
         """It is made again, and the night is commanded in it."""

@@ -179,12 +179,16 @@ class Goes(FolderNightTest):
         self.assertNotIn("another show", self.replies())
 
     def test_no_spare_of_another_show(self):
-        """That is told once, and so is that a night is not gone on with, which is tried again."""
+        """That is told once, and so is that a night is not gone on with, which is tried again. A
+        keeper that never saw the show of the record cannot put it back."""
         self.begin_night()
         self.spare()
+        keeper = self.kill("lock")
+        wait_for(lambda: not self.is_there(keeper), "the keeper is gone")
         show = (self.night / "show").read_bytes()
         for file in (self.night / "show", self.show):
             file.write_bytes(b"CUE 1\n")
+        self.assertEqual(0, self.run_script("start", "--background").status)
         self.kill("spare")
         self.wait_for_reply("record: another show")
         self.wait_for_reply("no spare stands by, as the lines above say")

@@ -168,8 +168,7 @@ class Status(RefusedTest):
         self.assertIn(f"the spare (process {spare}) does not read", told["trouble"][0]["text"])
         for number in (spare, keeper):
             os.kill(number, signal.SIGCONT)
-        (self.night / "show").write_bytes(b"CUE 1\n")
-        self.show.write_bytes(b"CUE 1\n")
+        self.damage_head()
         self.kill("spare")
         self.wait_for_reply("no spare stands by, as the lines above say")
         told = self.health()

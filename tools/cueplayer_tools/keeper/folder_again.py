@@ -12,7 +12,7 @@ from cueplayer_tools.keeper.folder import Folder, open_file, take_free_lock
 from cueplayer_tools.keeper.lines import lead_to, make_lines
 from cueplayer_tools.keeper.locks import write_number
 from cueplayer_tools.keeper.new_folder import make_files, write_words
-from cueplayer_tools.keeper.show_copy import COPY, put_file, read_show_file
+from cueplayer_tools.keeper.show_copy import COPY, is_of_record, put_file, read_show_file
 from cueplayer_tools.keeper.streams import Failure
 
 
@@ -24,12 +24,23 @@ def _is_same(path: str, other: str | int) -> bool:
         return False
 
 
+def _mark_of(path: str) -> tuple[int, ...]:
+    """What changes where a file does."""
+    try:
+        found = os.stat(path)
+    except OSError:
+        return ()
+    return found.st_dev, found.st_ino, found.st_size, found.st_mtime_ns
+
+
 class FolderAgain:
     """What a folder has to have."""
 
     def __init__(self, folder: Folder, words: list[str], lock: int | None) -> None:
         self.folder, self.words = folder, words
+        # The show that is played, once that is known, and its copy as it was seen last.
         self.show: bytes | None = None
+        self.copy: tuple[int, ...] = ()
         # That of the keeper, as long as it runs.
         self.lock = lock
         # Whether the folder was gone at the last look, and what was missing in it: who removes a
@@ -37,9 +48,24 @@ class FolderAgain:
         self.is_gone = False
         self.missing: set[str] = set()
 
-    def remember(self) -> None:
-        """Keeps the show that is played."""
-        self.show = read_show_file(self.folder.file(COPY)) or self.show
+    def forget_show(self) -> None:
+        """Another show may be played from now on."""
+        self.show = None
+
+    def _learn_show(self) -> None:
+        """Keeps the show that is played, once the record says which one that is."""
+        path = self.folder.file(COPY)
+        if self.show is None and is_of_record(self.folder, path):
+            self.copy, self.show = _mark_of(path), read_show_file(path)
+
+    def _has_other_show(self) -> bool:
+        """Whether the copy of the show is gone, or another one."""
+        mark = _mark_of(self.folder.file(COPY))
+        if self.show is None or mark == self.copy:
+            return False
+        is_same = read_show_file(self.folder.file(COPY)) == self.show
+        self.copy = mark if is_same else self.copy
+        return not is_same
 
     def make(self) -> None:
         """Makes the folder. OSError or Failure where that cannot be."""
@@ -90,9 +116,14 @@ class FolderAgain:
             return False
         if name == "lock":
             return self.lock is not None and not _is_same(path, self.lock)
-        return not os.path.lexists(path) and (name != COPY or self.show is not None)
+        return self._has_other_show() if name == COPY else not os.path.lexists(path)
 
-    def _put(self, name: str, live: int, spare: int) -> None:
+    def _put(self, name: str, live: int, spare: int) -> str:
+        """Puts it back; what is told of that."""
+        kept = ""
+        path = self.folder.file(name)
+        if name in ("in", COPY) and os.path.lexists(path) and not os.path.islink(path):
+            kept = put_aside(self.folder, name, "replaced")
         if name == "in":
             lead_to(self.folder, live)
         elif name == "lock":
@@ -105,6 +136,8 @@ class FolderAgain:
             os.close(open_file(self.folder.file(name), os.O_WRONLY | os.O_CREAT))
         else:
             self._put_number(name, live if name == "pid" else spare)
+        other = f" (what was in its place is kept as {kept})" if kept else ""
+        return f"{name}{other}"
 
     def _put_folder(self) -> bool:
         """Makes the folder where it was gone at the last look too; whether it was made."""
@@ -120,6 +153,7 @@ class FolderAgain:
     def look(self, live: int, spare: int | None) -> str | None:
         """Puts back what is missing now and was at the last look; what was put back, None where
         nothing was. What has no room comes later."""
+        self._learn_show()
         is_made = self._put_folder()
         names = ["in", "night", "replies", "lock", COPY, "pid", *(["spare"] if spare else [])]
         missing = [name for name in names if self._is_missing(name, live)]
@@ -127,9 +161,9 @@ class FolderAgain:
         for name in missing:
             if is_made or name in self.missing:
                 with contextlib.suppress(OSError):
-                    self._put(name, live, spare or 0)
-                    done += [] if self._is_missing(name, live) else [name]
-        self.missing = set(missing) - set(done)
+                    told = self._put(name, live, spare or 0)
+                    done += [] if self._is_missing(name, live) else [told]
+        self.missing = set(missing)
         if is_made:
             return "the folder of the night was removed, and is made again"
         if not done:

@@ -12,8 +12,6 @@ def lead_to(folder: Folder, live: int) -> None:
     """Has the name lead to the FIFO that this process reads. The file system has no name of it any
     more, and cannot give it one; the system has one for what a process has open."""
     path = folder.file("in")
-    if os.path.lexists(path) and not os.path.islink(path):
-        put_aside(folder, "in", "replaced")
     with contextlib.suppress(FileNotFoundError):
         os.unlink(f"{path}.part")
     os.symlink(f"/proc/{live}/fd/0", f"{path}.part")
@@ -34,6 +32,8 @@ def make_lines(folder: Folder) -> bool:
         return False
     live = find_live(folder)
     if live is not None:
+        if os.path.lexists(folder.file("in")) and not os.path.islink(folder.file("in")):
+            put_aside(folder, "in", "replaced")
         lead_to(folder, live)
         return True
     if os.path.islink(folder.file("in")):

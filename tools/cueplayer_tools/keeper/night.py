@@ -91,8 +91,6 @@ class KeptNight:
         self.live = self._start_live() if found is None else self._adopt(found)
         if told is not None:
             self.tell(told)
-        if found is not None:
-            self.folder_again.remember()
 
     def tell(self, text: str) -> None:
         """Tells what happened, in the replies and on standard error."""
@@ -147,7 +145,7 @@ class KeptNight:
         if self.trouble is not None:
             self.tell(f"live (process {self.live.number}) plays again")
         self.trouble = self.said = None
-        self.folder_again.remember()
+        self.folder_again.forget_show()
 
     def _wait(self) -> None:
         """Waits until a process has ended, or something was written: then it is looked at 30 ms
