@@ -32,6 +32,7 @@ sys.dont_write_bytecode = True
 sys.path.insert(0, str(Path(__file__).resolve().parent / "harness"))
 
 from folders import NIGHT  # noqa: E402
+from languages import make_language  # noqa: E402
 from machine import by_clock, witness  # noqa: E402
 from program import PROGRAM, text  # noqa: E402
 from restarts import Ear, Judge, Kill, Wrong  # noqa: E402
@@ -42,7 +43,7 @@ from cueplayer_tools.keeper.pipes import RECORD, REPLIES, LivePipes  # noqa: E40
 from cueplayer_tools.keeper.states import state_of  # noqa: E402
 
 TIMES, SEED = 200, 2026
-LANGUAGE, DISK = "de_DE.UTF-8", "12m"
+DISK = "12m"
 SKIPPED = 77
 DISK_TURNED = "disk filled or emptied"
 INSIDE = "CUEPLAYER_LONG_NIGHT"
@@ -317,15 +318,6 @@ def is_fifo(folder: str, names: list[str]) -> list[str]:
     return [name for name in names if Path(folder, name).is_fifo()]
 
 
-def make_language(place: str) -> bool:
-    """Makes the language in a folder, where the machine has what it takes."""
-    if not shutil.which("localedef"):
-        return False
-    name, charset = LANGUAGE.split(".")
-    words = ["localedef", "-i", name, "-f", charset, f"{place}/{LANGUAGE}"]
-    return subprocess.run(words, capture_output=True).returncode == 0
-
-
 def main() -> int:
     given = [int(word) for word in sys.argv[1:3]]
     times, seed = [*given, *(TIMES, SEED)[len(given) :]]
@@ -338,8 +330,7 @@ def main() -> int:
     if not tools or subprocess.run([*own, "true"], capture_output=True).returncode:
         return SKIPPED
     with tempfile.TemporaryDirectory() as place:
-        language = {"LC_ALL": LANGUAGE, "LOCPATH": place} if make_language(place) else {}
-        environment = os.environ | language | {INSIDE: "1"}
+        environment = os.environ | make_language(place) | {INSIDE: "1"}
         words = [*own, sys.executable, __file__, str(times), str(seed)]
         return subprocess.run(words, env=environment).returncode
 
