@@ -160,7 +160,8 @@ class Unseen(unittest.TestCase):
         folder = Folder("/nonexistent/night")
         again = FolderAgain(folder, [], None)
         nothing = SimpleNamespace(process=None, is_held=False)
-        guard = Guard(folder, None, nothing, again, None, told.append)
+        starter = SimpleNamespace(words=[])
+        guard = Guard(folder, starter, nothing, again, None, told.append)
         for _ in range(3):
             guard.look(SimpleNamespace(number=os.getpid()), True)
         self.assertEqual(1, len(told))

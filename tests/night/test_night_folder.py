@@ -9,6 +9,7 @@ import threading
 import time
 
 from folders import NIGHT, FolderNightTest
+from program import PROGRAM
 from tooling import PATIENCE, run_tool, stand_still, wait_for
 from wire import SEQUENCE, terminal
 
@@ -345,6 +346,27 @@ class Goes(FolderNightTest):
         self.night = one
         self.kill_all()
         self.assertEqual(0, self.run_script("start", "--background").status)
+
+    def test_same_cid_later(self):
+        """A `live` that is started by hand asks one folder alone: that is told, and gone from
+        `status` once it has ended."""
+        self.begin_night()
+        self.spare()
+        (self.folder / "runtime").mkdir()
+        environment = self.environment | {"XDG_RUNTIME_DIR": str(self.folder / "runtime")}
+        pipe = subprocess.PIPE
+        words = [PROGRAM, "live", *self.words]
+        other = subprocess.Popen(words, stdin=pipe, stdout=pipe, stderr=pipe, env=environment)
+        self.addCleanup(other.communicate)
+        self.addCleanup(other.kill)
+        told = f"end process {other.pid}, `kill {other.pid}`"
+        self.wait_for_reply(f"another console sends under this CID, .*: {told}$")
+        status = self.run_script("status")
+        self.assertEqual(3, status.status)
+        self.assertRegex(status.out, f"(?m)^trouble since .*{told}")
+        other.kill()
+        self.wait_for_reply("no other console sends under this CID any more$")
+        self.assertEqual(0, self.run_script("status").status)
 
     def test_line_that_is_not_read(self):
         """A line that `live` does not read is taken back after a second, and told: nothing is

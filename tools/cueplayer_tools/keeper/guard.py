@@ -7,6 +7,7 @@ import signal
 import time
 from collections.abc import Callable
 
+from cueplayer_tools.keeper.consoles import Others
 from cueplayer_tools.keeper.folder import Folder
 from cueplayer_tools.keeper.folder_again import FolderAgain
 from cueplayer_tools.keeper.own_record import FULL, why_not
@@ -47,6 +48,7 @@ class Guard:
         self.is_stale = False
         # Whether it was told that a look failed.
         self.is_blind = False
+        self.others = Others(folder, starter.words)
         self.service = Service()
 
     def look(self, live: Process, may_end: bool) -> None:
@@ -153,6 +155,8 @@ class Guard:
         spare = self.spare.process
         told = self.folder_again.look(live, None if spare is None else spare.number)
         if told is not None:
+            self.tell(told)
+        if (told := self.others.look()) is not None:
             self.tell(told)
 
     def _judge_record(self, watch: Watch) -> None:
