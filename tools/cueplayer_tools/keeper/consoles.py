@@ -16,7 +16,7 @@ from cueplayer_tools.keeper.players import is_live
 # A console that ends may take so many seconds to let go.
 PATIENCE = 1.0
 # How often it is looked, while a night is played, for another console, in seconds.
-_EVERY = 3.0
+_EVERY = 5.0
 _LOOK_EVERY = 0.05
 # Where `live` has the lock of a CID, as docs/FORMATS.md has it, and where the units have it.
 _FOLDERS = ("/run/user/*/cueplayer", "/tmp/cueplayer-*", "/run/cueplayer/cueplayer")
