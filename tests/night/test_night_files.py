@@ -1,5 +1,5 @@
-"""`cueplayer-night` and a folder out of which somebody takes the files of a night, or all of it: the
-night is commanded on, and goes on where `live` dies."""
+"""`cueplayer-night` and a folder out of which somebody takes the files of a night, or all of it:
+the night is commanded on, and goes on where `live` dies."""
 
 import os
 import shutil
@@ -177,7 +177,8 @@ class Replies(Files):
                 spare = self.spare()
                 os.truncate(self.night / "replies", 0)
                 killed = self.kill("pid")
-                self.wait_for_reply(rf"live \(process {killed}\) .*: the spare \(process {spare}\) ")
+                died = rf"live \(process {killed}\) .*: the spare \(process {spare}\) "
+                self.wait_for_reply(f"{died}goes on where it was$")
                 self.assertEqual(spare, self.number("pid"))
                 self.assertCommanded(200 + times)
         self.assertNumbered(self.numbers)

@@ -26,8 +26,8 @@ def follow(folder: Folder, live: int) -> None:
 
 
 def make_lines(folder: Folder) -> bool:
-    """Has a FIFO there: the one that a `live` reads which plays, or else a new one; whether that was
-    to be done. OSError where it cannot be."""
+    """Has a FIFO there: the one that a `live` reads which plays, or else a new one; whether that
+    was to be done. OSError where it cannot be."""
     if folder.is_fifo():
         return False
     live = find_live(folder)
