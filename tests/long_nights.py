@@ -195,6 +195,7 @@ class LongNight:
         path, other = self.night / name, self.night / "other"
         # What is put back by a name of its own may be away for a moment.
         with contextlib.suppress(FileNotFoundError):
+            other.unlink(missing_ok=True)
             if manner == "removed":
                 path.unlink()
             elif manner == "renamed":
@@ -308,7 +309,8 @@ def play(times: int, seed: int) -> int:
             night.ear.close()
         told = {"seed": seed, **night.judge(), "wrong": night.wrong}
         if night.wrong and "CUEPLAYER_KEEP" in os.environ:
-            shutil.copytree(night.night, os.environ["CUEPLAYER_KEEP"], ignore=is_fifo)
+            kept = os.environ["CUEPLAYER_KEEP"]
+            shutil.copytree(night.night, kept, symlinks=True, ignore=is_fifo)
         print(json.dumps(told))
         subprocess.run(["umount", "-l", name], check=False)
     return 1 if night.wrong else 0
