@@ -82,6 +82,16 @@ class Removed(Files):
         self.assertTrue(stat.S_ISFIFO(os.lstat(self.night / "in").st_mode))
         self.assertNumbered(self.numbers)
 
+    def test_press_that_comes_at_once(self):
+        """It waits until what it needs is put back."""
+        self.begin()
+        for times, name in enumerate(("night", "in", "replies"), 1):
+            with self.subTest(name):
+                (self.night / name).unlink()
+                self.assertEqual((0, ["ok"]), self.without_moments("sub", "1", f"H{199 + times:X}"))
+        self.numbers += self.wait_for_level(202)
+        self.assertNumbered(self.numbers)
+
     def test_file_in_the_place_of_the_lines(self):
         """As of a shell that writes where there is no FIFO: it is kept, and not carried out."""
         self.begin()

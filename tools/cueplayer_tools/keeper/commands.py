@@ -91,16 +91,26 @@ def _await_turn(turn: int) -> None:
         take_lock(turn, _PATIENCE)
 
 
-def _open_turn(folder: Folder) -> int:
-    """A file for turns; Failure where there is no night."""
+def _try_turn(folder: Folder) -> int | None:
+    """A file for turns; None where there is no night."""
     try:
         turn = open_file(folder.file("night"), os.O_RDONLY)
     except OSError:
-        turn = -1
-    if turn < 0 or not folder.is_fifo() or not folder.is_file("replies"):
-        if turn >= 0:
-            os.close(turn)
-        raise Failure(f"no night in {folder.path}")
+        return None
+    if folder.is_fifo() and folder.is_file("replies"):
+        return turn
+    os.close(turn)
+    return None
+
+
+def _open_turn(folder: Folder) -> int:
+    """A file for turns; Failure where there is no night. What somebody has just taken out of the
+    folder of one is put back in a moment."""
+    until = time.monotonic() + _PATIENCE
+    while (turn := _try_turn(folder)) is None:
+        if time.monotonic() > until or not os.path.isdir(folder.path):
+            raise Failure(f"no night in {folder.path}")
+        time.sleep(_LOOK_EVERY)
     return turn
 
 

@@ -57,10 +57,11 @@ class Guard:
         try:
             self._look(live, may_end)
             self.is_blind = False
-        except OSError as fault:
+        except (OSError, ValueError) as fault:
             if not self.is_blind:
                 self.is_blind = True
-                told = f"cannot see how live (process {live.number}) is: {reason(fault)}"
+                why = reason(fault) if isinstance(fault, OSError) else str(fault)
+                told = f"cannot see how live (process {live.number}) is: {why}"
                 self.tell(f"{told}; if it dies, the night goes on all the same")
 
     def _look(self, live: Process, may_end: bool) -> None:
