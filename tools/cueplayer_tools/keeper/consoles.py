@@ -78,6 +78,12 @@ def await_free(cid: str, folder: Folder | None = None) -> int | None:
     return found
 
 
+def told_of(number: int) -> str:
+    """What is told of another console."""
+    told = "another console sends under this CID, and the light goes to and fro"
+    return f"{told}: end process {number}, `kill {number}`"
+
+
 class Others:
     """Whether another console plays under the CID of a night while that is played: a `live` that is
     started by hand looks into one folder alone."""
@@ -98,8 +104,7 @@ class Others:
         was_seen, self.seen = self.seen is not None, found
         if found is not None and was_seen and not self.is_told:
             self.is_told = True
-            told = "another console sends under this CID, and the light goes to and fro"
-            return f"{told}: end process {found}, `kill {found}`"
+            return told_of(found)
         if found is None and self.is_told:
             self.is_told = False
             return "no other console sends under this CID any more"

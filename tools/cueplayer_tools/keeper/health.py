@@ -11,6 +11,7 @@ import time
 
 from cueplayer_tools.keeper.catching_up import CatchingUp
 from cueplayer_tools.keeper.commands import ask
+from cueplayer_tools.keeper.consoles import await_free, cids_in, told_of
 from cueplayer_tools.keeper.folder import Folder
 from cueplayer_tools.keeper.own_record import FULL
 from cueplayer_tools.keeper.pipes import REPLIES, LivePipes
@@ -74,6 +75,8 @@ class Health:
             # The lines say why.
             self.trouble = [each for each in self.trouble if each.kind not in told_kinds]
         self.trouble += [] if self.has_ended else story.open.values()
+        if self.live is not None:
+            self._look_for_others()
 
     def _look_at_live(self, live: int) -> None:
         """Looks whether it plays: whether its record grows, and whether it answers."""
@@ -129,6 +132,14 @@ class Health:
         elif state_of(self.keeper) in ("T", "t"):
             told = f"what keeps it going (process {self.keeper}) stands still"
             self.trouble.append(Trouble(KEEPER, None, f"{told}: `kill -CONT {self.keeper}`"))
+
+    def _look_for_others(self) -> None:
+        """Looks whether another console has the CID: a keeper that would tell it may be gone."""
+        for cid in cids_in(self.folder.words())[:1]:
+            found = await_free(cid, self.folder)
+            told = "" if found is None else told_of(found)
+            if told and told not in [each.text for each in self.trouble]:
+                self.trouble.append(Trouble(LIGHT, None, told))
 
     def _is_lately(self, moment: int) -> bool:
         found = _PLACE.fullmatch(self.place or "")
