@@ -87,18 +87,18 @@ class Health:
             self.place = ask(self.folder, "where")
         while self.folder.size("record") == size and time.monotonic() < until:
             time.sleep(_LOOK_EVERY)
-        named = f"live (process {live})"
+        named, since = f"live (process {live})", _written(self.folder, "record")
         if not has_record_open(self.folder, live):
             told = f"the record is not the one that {named} writes: that has lost its name"
             self.trouble.append(Trouble(RECORD, None, told))
         elif self.folder.size("record") == size:
             if not state_of(live):
-                self.trouble.append(Trouble(LIGHT, None, f"{named} has just ended"))
+                self.trouble.append(Trouble(LIGHT, since, f"{named} has just ended"))
             elif state_of(live) in ("T", "t", "D") or work_of(live) == work:
-                self.trouble.append(Trouble(LIGHT, None, f"{named} stands still"))
+                self.trouble.append(Trouble(LIGHT, since, f"{named} stands still"))
             else:
                 told = f"the record does not grow, and {named} plays on"
-                self.trouble.append(Trouble(RECORD, None, told))
+                self.trouble.append(Trouble(RECORD, since, told))
         elif free_room(self.folder) < FULL:
             told = "the disk of the night is full: make room"
             self.trouble.append(Trouble(RECORD, None, told))
@@ -114,15 +114,16 @@ class Health:
         if self.spare is None:
             self.trouble.append(Trouble(SPARE, None, "no spare stands by"))
             return
-        named = f"the spare (process {self.spare})"
+        named, since = f"the spare (process {self.spare})", None
         time.sleep(works.left())
         if state_of(self.spare) in ("T", "t") or not reads_record(self.folder, self.spare):
             told = f"{named} does not read the record: it is just started, or stands still"
         elif works.is_so():
+            since = _written(self.folder, "spare")
             told = f"{named} still takes up the record: if live dies now, the light waits for that"
         else:
             return
-        self.trouble.append(Trouble(SPARE, None, told))
+        self.trouble.append(Trouble(SPARE, since, told))
         self.spare = None
 
     def _look_at_keeper(self) -> None:
