@@ -1,11 +1,12 @@
 #!/usr/bin/env python3
-"""Long nights: the processes of a night in a folder are killed and stopped by chance, while
-commands are given, over a small disk that fills and empties, in a language with a decimal comma.
-Then all that was heard is held against what the record means.
+"""Long nights: the processes of a night in a folder are killed and stopped by chance, and its files
+taken out of it, while commands are given, over a small disk that fills and empties, in a language
+with a decimal comma. Behind each of these `status` has to say that all is well again. At last all
+that was heard is held against what the record means.
 
 usage: tests/long_nights.py [TIMES [SEED]]
 
-TIMES is how often a process is killed or stopped, by default 200. It runs in a network and under
+TIMES is how often something is done to it, by default 200. It runs in a network and under
 mounts of its own, and prints one line of JSON: the figures, and what was not as it must be.
 Status 0: all was. 1: something was not. 77: this machine has no such namespaces, or no such tools.
 """
@@ -14,6 +15,7 @@ import contextlib
 import json
 import os
 import random
+import re
 import shutil
 import signal
 import subprocess
@@ -30,6 +32,7 @@ sys.dont_write_bytecode = True
 sys.path.insert(0, str(Path(__file__).resolve().parent / "harness"))
 
 from folders import NIGHT  # noqa: E402
+from languages import make_language  # noqa: E402
 from machine import by_clock, witness  # noqa: E402
 from program import PROGRAM, text  # noqa: E402
 from restarts import Ear, Judge, Kill, Wrong  # noqa: E402
@@ -40,7 +43,7 @@ from cueplayer_tools.keeper.pipes import RECORD, REPLIES, LivePipes  # noqa: E40
 from cueplayer_tools.keeper.states import state_of  # noqa: E402
 
 TIMES, SEED = 200, 2026
-LANGUAGE, DISK = "de_DE.UTF-8", "12m"
+DISK = "12m"
 SKIPPED = 77
 DISK_TURNED = "disk filled or emptied"
 INSIDE = "CUEPLAYER_LONG_NIGHT"
@@ -52,6 +55,10 @@ LONGEST, WHOLE = 1000.0, 15.0
 # listened for, in seconds.
 STOPPED, BEHIND = 1.0, 3.0
 WHO = ("live", "spare", "keeper", "record", "replies", "both")
+# What is taken out of the folder, one act of so many; what of it is put back without room.
+FILES, ONE_OF = ("record", "in", "night", "show", "lock", "pid", "spare"), 5
+# How `status` ends where all is well, and on a disk that is full.
+WELL, FULL, OVER = 0, 4, 1
 
 
 def show(chance: random.Random) -> bytes:
@@ -135,8 +142,10 @@ class LongNight:
         spare = self.number("spare")
         with contextlib.suppress(OSError):
             program = os.readlink(f"/proc/{spare}/exe")
-            opened = [os.readlink(each) for each in Path(f"/proc/{spare}/fd").iterdir()]
-            return Path(program).name == PROGRAM.name and str(self.night / "record") in opened
+            opened = [os.stat(each) for each in Path(f"/proc/{spare}/fd").iterdir()]
+            record = os.stat(self.night / "record")
+            is_open = any(os.path.samestat(each, record) for each in opened)
+            return Path(program).name == PROGRAM.name and is_open
         return False
 
     def become_whole(self) -> None:
@@ -148,6 +157,18 @@ class LongNight:
             time.sleep(0.02)
         # It has read what was recorded before.
         time.sleep(0.2)
+
+    def become_well(self) -> None:
+        """Waits until `status` says so."""
+        until = time.monotonic() + WHOLE
+        while (done := self.run("status")).returncode != WELL:
+            if self.disk.fill.exists() and done.returncode == FULL:
+                return
+            if time.monotonic() > until:
+                told = "; ".join(re.findall("(?m)^trouble.*", done.stdout)) or done.stderr.strip()
+                self.wrong.append(f"status {done.returncode} behind {WHOLE:.0f} s: {told}")
+                return
+            time.sleep(0.2)
 
     def begin(self) -> None:
         witness()
@@ -164,8 +185,29 @@ class LongNight:
         if done.returncode:
             self.missed.append((done.stdout + done.stderr).strip())
 
+    def take_out(self) -> None:
+        """Takes a file out of the folder, or puts a copy in its place. On a disk that is full only
+        a name can be put back."""
+        name = FILES[0] if self.disk.fill.exists() else self.chance.choice(FILES)
+        manner = self.chance.choice(("removed", "renamed", "replaced"))
+        manner = "removed" if name == "in" and manner == "replaced" else manner
+        self.done[f"{name} {manner}"] += 1
+        path, other = self.night / name, self.night / "other"
+        # What is put back by a name of its own may be away for a moment.
+        with contextlib.suppress(FileNotFoundError):
+            other.unlink(missing_ok=True)
+            if manner == "removed":
+                path.unlink()
+            elif manner == "renamed":
+                path.rename(other)
+            elif not self.disk.fill.exists():
+                shutil.copyfile(path, other)
+                other.rename(path)
+
     def act(self) -> None:
-        """Kills or stops a process, or two."""
+        """Kills or stops a process, or two, or takes out a file."""
+        if self.chance.randrange(ONE_OF) == 0:
+            return self.take_out()
         who, ends = self.chance.choice(WHO), self.chance.random() < 0.6
         names = ("live", "spare") if who == "both" else (who,)
         ends = ends or who == "both"
@@ -200,6 +242,7 @@ class LongNight:
             time.sleep(self.chance.uniform(0.0, 0.5))
             self.press()
             self.become_whole()
+            self.become_well()
 
     def end(self) -> None:
         """Ends it: nothing comes behind that."""
@@ -213,6 +256,8 @@ class LongNight:
         self.ear.settle()
         if len(self.ear.heard) > heard:
             self.wrong.append(f"{len(self.ear.heard) - heard} packets came behind the end")
+        if (done := self.run("status")).returncode != OVER or "has ended" not in done.stdout:
+            self.wrong.append(f"not over: {done.stdout}{done.stderr}".strip())
 
     def gaps(self) -> list[tuple[float, float]]:
         """From one packet to the next, in milliseconds, the longest first; and for how long of that
@@ -264,7 +309,8 @@ def play(times: int, seed: int) -> int:
             night.ear.close()
         told = {"seed": seed, **night.judge(), "wrong": night.wrong}
         if night.wrong and "CUEPLAYER_KEEP" in os.environ:
-            shutil.copytree(night.night, os.environ["CUEPLAYER_KEEP"], ignore=is_fifo)
+            kept = os.environ["CUEPLAYER_KEEP"]
+            shutil.copytree(night.night, kept, symlinks=True, ignore=is_fifo)
         print(json.dumps(told))
         subprocess.run(["umount", "-l", name], check=False)
     return 1 if night.wrong else 0
@@ -272,15 +318,6 @@ def play(times: int, seed: int) -> int:
 
 def is_fifo(folder: str, names: list[str]) -> list[str]:
     return [name for name in names if Path(folder, name).is_fifo()]
-
-
-def make_language(place: str) -> bool:
-    """Makes the language in a folder, where the machine has what it takes."""
-    if not shutil.which("localedef"):
-        return False
-    name, charset = LANGUAGE.split(".")
-    words = ["localedef", "-i", name, "-f", charset, f"{place}/{LANGUAGE}"]
-    return subprocess.run(words, capture_output=True).returncode == 0
 
 
 def main() -> int:
@@ -295,8 +332,7 @@ def main() -> int:
     if not tools or subprocess.run([*own, "true"], capture_output=True).returncode:
         return SKIPPED
     with tempfile.TemporaryDirectory() as place:
-        language = {"LC_ALL": LANGUAGE, "LOCPATH": place} if make_language(place) else {}
-        environment = os.environ | language | {INSIDE: "1"}
+        environment = os.environ | make_language(place) | {INSIDE: "1"}
         words = [*own, sys.executable, __file__, str(times), str(seed)]
         return subprocess.run(words, env=environment).returncode
 

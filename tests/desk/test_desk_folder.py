@@ -84,6 +84,22 @@ class Desk(DeskFolderTest):
         page.wait(masters={"sub 1": 255}, waiting=0)
         self.wait_for_level(255)
 
+    def test_replies_are_cut_and_removed(self):
+        """As by who rotates them: the page goes on to show what is done."""
+        self.begin_night()
+        self.spare()
+        _, page = self.desk()
+        for times, cause in enumerate((lambda path: os.truncate(path, 0), os.unlink), 1):
+            with self.subTest(times):
+                cause(self.night / "replies")
+                self.wait_for_reply(r"^\d+ where ")
+                self.assertEqual((0, ["ok", f"cue {times}"]), self.without_moments("go"))
+                page.wait(current=f"{times}", waiting=0, late=False)
+                wait_for(lambda: page.command("sub 1 FL") == 204, "a press that is taken")
+                page.wait(masters={"sub 1": 255}, waiting=0)
+                self.assertEqual((0, ["ok"]), self.without_moments("sub", "1", "0"))
+                page.wait(masters={})
+
     def test_press_that_nobody_takes(self):
         """Where no `live` plays a press is refused at once, and what to do is told; with the next
         one the desk goes on."""

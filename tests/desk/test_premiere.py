@@ -131,6 +131,23 @@ class Night(PremiereTest):
         page.wait(current="2", next="3")
         self.leave(third)
 
+    def test_record_that_is_damaged(self):
+        """As by a power cut: the same command begins the night in the last cue, and says so."""
+        process, _, page, _ = self.opened()
+        page.command("goto 2 in 0")
+        page.wait(current="2", waiting=0)
+        process.kill()
+        process.wait()
+        self.kill_all()
+        wait_for(lambda: not Premiere(self.night).is_played(), "that nobody plays")
+        with open(self.night / "record", "ab") as file:
+            file.write(bytes(40) + b"\n")
+        again, (_, err), page, _ = self.opened()
+        told = r".*: the night starts again in cue 2, its masters at full; the record is kept as "
+        err.find(told + "record-refused-")
+        page.wait(current="2", next="3")
+        self.leave(again)
+
     def test_next_evening(self):
         """Behind an end the same command begins a new night; the old record is kept."""
         process, (out, _), page, _ = self.opened()

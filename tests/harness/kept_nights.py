@@ -49,6 +49,11 @@ class RefusedTest(FolderNightTest):
     def wait_for_status(self, status):
         return wait_for(lambda: (told := self.health())["status"] == status and told, str(status))
 
+    def damage_head(self, letter=b"?"):
+        """Puts a letter in the place of the first one of the record, by which no spare knows it."""
+        with open(self.night / "record", "r+b") as file:
+            file.write(letter)
+
     def go(self, *cues):
         for cue in cues:
             self.assertEqual((0, ["ok", f"cue {cue}"]), self.without_moments("go"))

@@ -9,6 +9,7 @@ import threading
 import time
 
 from folders import NIGHT, FolderNightTest
+from program import PROGRAM
 from tooling import PATIENCE, run_tool, stand_still, wait_for
 from wire import SEQUENCE, terminal
 
@@ -179,12 +180,16 @@ class Goes(FolderNightTest):
         self.assertNotIn("another show", self.replies())
 
     def test_no_spare_of_another_show(self):
-        """That is told once, and so is that a night is not gone on with, which is tried again."""
+        """That is told once, and so is that a night is not gone on with, which is tried again. A
+        keeper that never saw the show of the record cannot put it back."""
         self.begin_night()
         self.spare()
+        keeper = self.kill("lock")
+        wait_for(lambda: not self.is_there(keeper), "the keeper is gone")
         show = (self.night / "show").read_bytes()
         for file in (self.night / "show", self.show):
             file.write_bytes(b"CUE 1\n")
+        self.assertEqual(0, self.run_script("start", "--background").status)
         self.kill("spare")
         self.wait_for_reply("record: another show")
         self.wait_for_reply("no spare stands by, as the lines above say")
@@ -341,6 +346,30 @@ class Goes(FolderNightTest):
         self.night = one
         self.kill_all()
         self.assertEqual(0, self.run_script("start", "--background").status)
+
+    def test_same_cid_later(self):
+        """A `live` that is started by hand asks one folder alone: that is told, and gone from
+        `status` once it has ended."""
+        self.begin_night()
+        self.spare()
+        (self.folder / "runtime").mkdir()
+        environment = self.environment | {"XDG_RUNTIME_DIR": str(self.folder / "runtime")}
+        pipe = subprocess.PIPE
+        words = [PROGRAM, "live", *self.words]
+        other = subprocess.Popen(words, stdin=pipe, stdout=pipe, stderr=pipe, env=environment)
+        self.addCleanup(other.communicate)
+        self.addCleanup(other.kill)
+        told = f"end process {other.pid}, `kill {other.pid}`"
+        wait_for(lambda: self.run_script("status").status == 3, "status 3")
+        self.assertIn(told, self.run_script("status").out)
+        self.wait_for_reply(f"another console sends under this CID, .*: {told}$")
+        status = self.run_script("status")
+        self.assertEqual(3, status.status)
+        self.assertRegex(status.out, f"(?m)^trouble since .*{told}$")
+        self.assertEqual(1, status.out.count("\ntrouble"))
+        other.kill()
+        self.wait_for_reply("no other console sends under this CID any more$")
+        self.assertEqual(0, self.run_script("status").status)
 
     def test_line_that_is_not_read(self):
         """A line that `live` does not read is taken back after a second, and told: nothing is

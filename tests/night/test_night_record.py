@@ -140,6 +140,29 @@ class Room(RecordTest):
         self.assertGoesOn(51)
         self.assertNumbered(self.numbers)
 
+    def test_answers_have_none(self):
+        """What became of a command is known by the record, and its status is that of the answer."""
+        self.begin()
+        writer = self.writer(REPLIES)
+        self.limit_of(writer, len(self.replies()))
+        for line, expected, told in (
+            ("go", 0, "cue 2 came"), ("goto 3 in 0", 0, "cue 3 came"), ("goto 3", 0, "cue 3 came"),
+            ("go", 1, "go changed nothing"), ("goto 7", 1, "goto 7 changed nothing"),
+            ("sub 1 50", 0, "live took it"), ("back", 0, "cue 2 came"),
+        ):  # fmt: skip
+            with self.subTest(line):
+                status, out, err = self.run_script(*line.split())
+                self.assertEqual((expected, ""), (status, out))
+                self.assertRegex(err, rf": no answer within a second: by the record {told} at \d+;")
+        self.assertEqual(1, self.run_script("sub", "1").status)
+        told = self.wait_for_status(7)
+        self.assertIn("answers cannot be written: File too large", told["trouble"][0]["text"])
+        self.limit_of(writer)
+        self.wait_for_reply(r"^\d+ cue 2$", 2)
+        self.wait_for_status(0)
+        self.assertEqual((0, ["where cue 2 next 3 master 255 sub 1:128"]),
+                         self.without_moments("where"))
+
     def test_end_that_has_none(self):
         for word in ("end", "leave"):
             with self.subTest(word):

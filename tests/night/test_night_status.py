@@ -19,6 +19,7 @@ START = ("show: 3 cues, 1 submaster, 0 groups, 1 dimmer", "end ends the night, l
 SHOW = "no spare stands by, as the lines above say: if live dies, it is started again"
 GROWS = "the record does not grow, and live (process 7) plays on: the disk stalls, or is slow"
 STILL = "live (process 7) stands still: it is ended, so that the night goes on"
+CONSOLE = "another console sends under this CID, and the light goes to and fro: end process 9"
 SPARE_GOES_ON = "live (process 7) was ended by SIGKILL: the spare (process 8) goes on where it was"
 NO_LINK = "no link eth0: nodes get nothing; check the cable"
 ROUTE = "the route to 10.0.0.7 leads by office: nodes get nothing; check ip route get 10.0.0.7"
@@ -39,6 +40,7 @@ PAIRS = (
     ("record: late, and the light goes on", "record", None, "record: whole again"),
     ("record: device fault", "record", None, START[0]),
     (f"{AT}{GROWS}", "record", SINCE, f"{AT}the record grows again"),
+    (f"{AT}{CONSOLE}", "light", SINCE, f"{AT}no other console sends under this CID any more"),
     (f"{AT}{SHOW}", "spare", SINCE, f"{AT}a spare stands by again"),
     (f"{AT}{STILL}", "light", SINCE, f"{AT}{SPARE_GOES_ON}"),
     (f"{AT}{REFUSED}", "light", SINCE, START[1]),
@@ -140,6 +142,7 @@ class Status(RefusedTest):
         self.assertEqual((3, ["light", "keeper"]),
                          (told["status"], [each["kind"] for each in told["trouble"]]))
         self.assertIn("stands still", told["trouble"][0]["text"])
+        self.assertRegex(told["trouble"][0]["since"], r"^\d{4}-\d\d-\d\d \d\d:\d\d:\d\d$")
         os.kill(self.number("pid"), signal.SIGCONT)
 
     def test_record_breaks_off_and_stalls(self):
@@ -168,8 +171,7 @@ class Status(RefusedTest):
         self.assertIn(f"the spare (process {spare}) does not read", told["trouble"][0]["text"])
         for number in (spare, keeper):
             os.kill(number, signal.SIGCONT)
-        (self.night / "show").write_bytes(b"CUE 1\n")
-        self.show.write_bytes(b"CUE 1\n")
+        self.damage_head()
         self.kill("spare")
         self.wait_for_reply("no spare stands by, as the lines above say")
         told = self.health()

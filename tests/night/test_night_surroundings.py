@@ -7,14 +7,13 @@ import shutil
 import signal
 import subprocess
 import sys
-import unittest
 from concurrent.futures import ThreadPoolExecutor
 from pathlib import Path
 
 from folders import NIGHT, FolderNightTest
+from languages import make_language
 from tooling import PATIENCE, wait_for
 
-COMMA = "de_DE.UTF-8"
 # How many commands come, and how many of them at once: of a clock that is read wrong at some
 # moments one would tell.
 COMMANDS, AT_ONCE = 60, 8
@@ -40,14 +39,6 @@ echo "! cueplayer record 1: show x" >>"$2"
 echo "end ends the night" >&2
 while ! [ -e "{night}/over" ]; do sleep 0.05; done
 """
-
-
-def has_locale(name):
-    """Whether the machine has this locale."""
-    if not shutil.which("locale"):
-        return False
-    told = subprocess.run(["locale", "-a"], capture_output=True, text=True).stdout
-    return name.lower().replace("-", "") in told.lower().replace("-", "").split()
 
 
 class SurroundingsTest(FolderNightTest):
@@ -98,10 +89,12 @@ class SurroundingsTest(FolderNightTest):
 class Settings(SurroundingsTest):
     """Locales, options of shells and of Python, tools that are missing, and closed streams."""
 
-    @unittest.skipUnless(has_locale(COMMA), f"the locale {COMMA} is not on this machine")
     def test_decimal_comma(self):
         """Each command is answered, and the night goes on."""
-        self.environment["LC_ALL"] = COMMA
+        language = make_language(str(self.folder))
+        if not language:
+            self.skipTest("this machine makes no language with a decimal comma")
+        self.environment |= language
         self.begin_night()
         with ThreadPoolExecutor(AT_ONCE) as pool:
             runs = list(pool.map(lambda _: self.run_script("sub", "1", "50"), range(COMMANDS)))

@@ -64,6 +64,11 @@ class Units(unittest.TestCase):
         for unit in UNITS:
             self.assertEqual(name, dict(settings(unit))["User"])
 
+    def test_sees_others(self):
+        """A night looks for its CID among the processes of all users."""
+        for unit in UNITS:
+            self.assertNotIn("ProtectProc", dict(settings(unit)))
+
     def analyze(self, name, *words):
         """What systemd says of an instance that starts what is here."""
         text = unit_text(name).replace(f"/usr/bin/cueplayer-{name}", str(UNITS[name]))

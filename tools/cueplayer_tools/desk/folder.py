@@ -5,6 +5,7 @@ them is read in its replies, from where they stand as the desk begins: `where` t
 desk may go, and come again, and the light does not notice.
 """
 
+import os
 import threading
 import time
 from collections.abc import Callable
@@ -61,7 +62,28 @@ class FolderNight(HeardNight):
                     self._take(self._hear_line, line.decode("latin-1"))
                     self._change()
             if not lines:
+                rest = b"" if self._finds_others() else rest
                 time.sleep(READ_EVERY)
+
+    def _finds_others(self) -> bool:
+        """Whether the replies were cut, or others have their name: those are read from their
+        beginning, and the state anew. Behind the end of the night they are those of the next."""
+        if self.state.status is not None:
+            return False
+        try:
+            own, there = os.fstat(self.replies.fileno()), os.stat(self.folder.replies)
+            is_cut = own.st_size < self.replies.tell()
+            if os.path.samestat(own, there) and not is_cut:
+                return False
+            others = self.folder.replies.open("rb")
+        except OSError:
+            return False
+        self.replies.close()
+        self.replies = others
+        with self.changed:
+            self._lose_track()
+            self._change()
+        return True
 
     def _hear_line(self, line: str) -> None:
         """Takes a line of either output of `live`, or of whoever keeps the night."""

@@ -49,6 +49,7 @@ def _lines_behind(folder: Folder, start: int, until: float) -> Iterator[bytes]:
     """The lines that come into the replies behind so many bytes, until then."""
     rest = b""
     while time.monotonic() < until:
+        start = folder.place_in("replies", start)
         part = folder.read("replies", start, _MOST)
         start += len(part)
         *lines, rest = (rest + part).split(b"\n")
@@ -57,19 +58,24 @@ def _lines_behind(folder: Folder, start: int, until: float) -> Iterator[bytes]:
             time.sleep(_READ_EVERY)
 
 
-def _print_answer(folder: Folder, word: str, start: int) -> int:
+def _print_answer(folder: Folder, line: str, start: int, recorded: int) -> int:
     """Prints the answer to a command from what comes, up to the cue of a move, or to the end of a
-    night; its status."""
-    status = None
-    for line in _lines_behind(folder, start, time.monotonic() + _PATIENCE):
-        if not _is_answer(word, line):
+    night; its status. Where none comes, the record may have the command."""
+    status, word = None, line.partition(" ")[0]
+    for each in _lines_behind(folder, start, time.monotonic() + _PATIENCE):
+        if not _is_answer(word, each):
             continue
-        show(line + b"\n")
-        if _is_refusal(line):
+        show(each + b"\n")
+        if _is_refusal(each):
             return 1
         status = 0
-        if word not in _MOVES + _ENDS or not line.endswith(b" ok"):
+        if word not in _MOVES + _ENDS or not each.endswith(b" ok"):
             return status
+    if status is None:
+        # What few commands want, the others need not read.
+        from cueplayer_tools.keeper.taken import tell_taken
+
+        status = tell_taken(folder, line, recorded)
     if status is None:
         complain("no answer within a second: `where` says what was carried out")
         return 1
@@ -85,16 +91,26 @@ def _await_turn(turn: int) -> None:
         take_lock(turn, _PATIENCE)
 
 
-def _open_turn(folder: Folder) -> int:
-    """A file for turns; Failure where there is no night."""
+def _try_turn(folder: Folder) -> int | None:
+    """A file for turns; None where there is no night."""
     try:
         turn = open_file(folder.file("night"), os.O_RDONLY)
     except OSError:
-        turn = -1
-    if turn < 0 or not folder.is_fifo() or not folder.is_file("replies"):
-        if turn >= 0:
-            os.close(turn)
-        raise Failure(f"no night in {folder.path}")
+        return None
+    if folder.is_fifo() and folder.is_file("replies"):
+        return turn
+    os.close(turn)
+    return None
+
+
+def _open_turn(folder: Folder) -> int:
+    """A file for turns; Failure where there is no night. What somebody has just taken out of the
+    folder of one is put back in a moment."""
+    until = time.monotonic() + _PATIENCE
+    while (turn := _try_turn(folder)) is None:
+        if time.monotonic() > until or not os.path.isdir(folder.path):
+            raise Failure(f"no night in {folder.path}")
+        time.sleep(_LOOK_EVERY)
     return turn
 
 
@@ -121,9 +137,9 @@ def command_night(folder: Folder, line: str) -> int:
     turn = _open_turn(folder)
     try:
         _await_turn(turn)
-        start = folder.size("replies")
+        start, recorded = folder.size("replies"), folder.size("record")
         if _give_soon(folder, line):
-            return _print_answer(folder, line.partition(" ")[0], start)
+            return _print_answer(folder, line, start, recorded)
     finally:
         os.close(turn)
     told = f"no live plays the night in {folder.path}: nothing was sent"

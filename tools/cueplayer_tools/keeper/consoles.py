@@ -15,10 +15,19 @@ from cueplayer_tools.keeper.players import is_live
 
 # A console that ends may take so many seconds to let go.
 PATIENCE = 1.0
+# How often it is looked, while a night is played, for another console, in seconds.
+_EVERY = 5.0
 _LOOK_EVERY = 0.05
 # Where `live` has the lock of a CID, as docs/FORMATS.md has it, and where the units have it.
 _FOLDERS = ("/run/user/*/cueplayer", "/tmp/cueplayer-*", "/run/cueplayer/cueplayer")
 _LONGEST = 1 << 17
+
+
+def cids_in(words: list[str]) -> list[str]:
+    """The CIDs among the words of `live`."""
+    options = [word.partition("=") for word in words]
+    behind = zip(options, [*words[1:], ""])
+    return [value or after for (name, _, value), after in behind if name == "--cid"]
 
 
 def lock_files(cid: str) -> list[str]:
@@ -47,10 +56,8 @@ def _plays(number: str, cid: str) -> bool:
     # The program, or the script that starts it.
     if b"live" not in words[1:3]:
         return False
-    options = [word.partition(b"=") for word in words]
-    behind = zip(options, [*words[1:], b""])
-    cids = [value or after for (name, _, value), after in behind if name == b"--cid"]
-    is_one = any(each.decode("latin-1").lower() == cid.lower() for each in cids)
+    cids = cids_in([each.decode("latin-1") for each in words])
+    is_one = any(each.lower() == cid.lower() for each in cids)
     return is_one and _network(number) in ("", _network("self"))
 
 
@@ -69,3 +76,36 @@ def await_free(cid: str, folder: Folder | None = None) -> int | None:
     while (found := find_console(cid, folder)) is not None and time.monotonic() < until:
         time.sleep(_LOOK_EVERY)
     return found
+
+
+def told_of(number: int) -> str:
+    """What is told of another console."""
+    told = "another console sends under this CID, and the light goes to and fro"
+    return f"{told}: end process {number}, `kill {number}`"
+
+
+class Others:
+    """Whether another console plays under the CID of a night while that is played: a `live` that is
+    started by hand looks into one folder alone."""
+
+    def __init__(self, folder: Folder, words: list[str]) -> None:
+        self.folder, self.cids = folder, cids_in(words)
+        self.looked = time.monotonic()
+        # Which one was seen at the last look, and whether that was told.
+        self.seen: int | None = None
+        self.is_told = False
+
+    def look(self) -> str | None:
+        """What is told of it now; None where that is nothing. One that is about to end is not."""
+        if time.monotonic() - self.looked < _EVERY:
+            return None
+        self.looked = time.monotonic()
+        found = find_console(self.cids[0], self.folder) if self.cids else None
+        was_seen, self.seen = self.seen is not None, found
+        if found is not None and was_seen and not self.is_told:
+            self.is_told = True
+            return told_of(found)
+        if found is None and self.is_told:
+            self.is_told = False
+            return "no other console sends under this CID any more"
+        return None

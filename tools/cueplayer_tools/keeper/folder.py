@@ -106,6 +106,10 @@ class Folder:
         except OSError:
             return 0
 
+    def place_in(self, name: str, start: int) -> int:
+        """This place in a file that grows; its beginning where somebody has cut or removed that."""
+        return start if start <= self.size(name) else 0
+
     def read(self, name: str, start: int, most: int) -> bytes:
         """What stands in a regular file behind its first bytes; nothing where it cannot be
         read."""

@@ -7,7 +7,9 @@ import signal
 import time
 from collections.abc import Callable
 
+from cueplayer_tools.keeper.consoles import Others
 from cueplayer_tools.keeper.folder import Folder
+from cueplayer_tools.keeper.folder_again import FolderAgain
 from cueplayer_tools.keeper.own_record import FULL, why_not
 from cueplayer_tools.keeper.players import find_writer
 from cueplayer_tools.keeper.processes import Process, Starter
@@ -20,7 +22,7 @@ from cueplayer_tools.keeper.unread import Unread
 from cueplayer_tools.keeper.writer_watch import WriterWatch
 from cueplayer_tools.keeper.writers import NO_ROOM
 
-# How often it is told at most that ticks were late, in seconds.
+# How often it is told at most that ticks were late, if no later than before, in seconds.
 _LATE_EVERY = 60.0
 # How fast a record grows, in bytes a minute.
 _EACH_MINUTE = 33_000
@@ -30,24 +32,39 @@ class Guard:
     """Looks at the `live` that plays."""
 
     def __init__(
-        self, folder: Folder, starter: Starter, spare: Spare, unread: Unread,
-        tell: Callable[[str], None],
+        self, folder: Folder, starter: Starter, spare: Spare, folder_again: FolderAgain,
+        unread: Unread, tell: Callable[[str], None],
     ) -> None:  # fmt: skip
         self.folder, self.starter, self.spare = folder, starter, spare
+        self.folder_again = folder_again
         self.unread, self.tell = unread, tell
         self.watch: Watch | None = None
         self.writers: WriterWatch | None = None
-        self.told_late = -_LATE_EVERY
+        self.told_late, self.latest = -_LATE_EVERY, 0.0
         # Whether it was told that `live` stands still, that the record does not grow, that it was
         # cut, that it has lost its name, and that its disk is full.
         self.is_still = self.is_broken = self.is_cut = self.is_lost = self.is_full = False
         # Whether lines are missing in a record that does not grow, if `live` dies.
         self.is_stale = False
+        # Whether it was told that a look failed.
+        self.is_blind = False
+        self.others = Others(folder, starter.words)
         self.service = Service()
 
     def look(self, live: Process, may_end: bool) -> None:
         """Looks at it, as often as once in a tenth of a second; one that stands still is ended
-        where that may be."""
+        where that may be. Who sees nothing keeps the night all the same."""
+        try:
+            self._look(live, may_end)
+            self.is_blind = False
+        except (OSError, ValueError) as fault:
+            if not self.is_blind:
+                self.is_blind = True
+                why = reason(fault) if isinstance(fault, OSError) else str(fault)
+                told = f"cannot see how live (process {live.number}) is: {why}"
+                self.tell(f"{told}; if it dies, the night goes on all the same")
+
+    def _look(self, live: Process, may_end: bool) -> None:
         watch = self.watch
         if watch is None or watch.number != live.number:
             self._begin(live.number)
@@ -57,6 +74,7 @@ class Guard:
             if watch.ticks:
                 self.service.tick(self._words(watch.number))
             self._judge_name(watch)
+            self._judge_files(watch.number)
             if self.writers is not None:
                 self.writers.look()
             self._judge_process(watch, may_end)
@@ -78,9 +96,10 @@ class Guard:
 
     def _begin(self, number: int) -> None:
         """Begins to look at another one."""
+        watch = Watch(self.folder, number)
         if self.watch is not None:
             self.watch.close()
-        self.watch = Watch(self.folder, number)
+        self.watch = watch
         self.writers = WriterWatch(self.starter, number, self.tell)
         self.is_still = self.is_broken = self.is_cut = self.is_lost = self.is_stale = False
         self.spare.is_held = False
@@ -97,9 +116,13 @@ class Guard:
         elif self.is_still and not watch.stands_still():
             self.is_still = False
             self.tell(f"{live} runs again")
-        elif watch.was_late() and watch.looked - self.told_late >= _LATE_EVERY:
-            self.told_late = watch.looked
+        elif watch.was_late() and self._is_news(watch):
+            self.told_late, self.latest = watch.looked, watch.late
             self.tell(f"{live} made no tick for {watch.late:.1f} s: is the machine too busy?")
+
+    def _is_news(self, watch: Watch) -> bool:
+        """Whether it is told that ticks were late."""
+        return watch.late > self.latest or watch.looked - self.told_late >= _LATE_EVERY
 
     def _end(self, live: str, number: int) -> None:
         """Ends it, so that the spare goes on. A press that it has not read is not carried out
@@ -128,6 +151,14 @@ class Guard:
                 self.tell(f"{told}: {why_not(fault)}; no spare stands by")
             return
         self.tell(told)
+
+    def _judge_files(self, live: int) -> None:
+        spare = self.spare.process
+        told = self.folder_again.look(live, None if spare is None else spare.number)
+        if told is not None:
+            self.tell(told)
+        if (told := self.others.look()) is not None:
+            self.tell(told)
 
     def _judge_record(self, watch: Watch) -> None:
         if watch.was_cut and not self.is_cut:

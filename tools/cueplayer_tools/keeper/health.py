@@ -4,13 +4,17 @@ What leaves the machine is not seen here. That `live` sends is told from its rec
 tick stands before it is carried out, and from its own lines on cards, routes and lost packets.
 """
 
+import contextlib
 import os
 import re
 import time
 
+from cueplayer_tools.keeper.catching_up import CatchingUp
 from cueplayer_tools.keeper.commands import ask
+from cueplayer_tools.keeper.consoles import await_free, cids_in, told_of
 from cueplayer_tools.keeper.folder import Folder
 from cueplayer_tools.keeper.own_record import FULL
+from cueplayer_tools.keeper.pipes import REPLIES, LivePipes
 from cueplayer_tools.keeper.players import (
     find_keeper,
     find_live,
@@ -19,7 +23,8 @@ from cueplayer_tools.keeper.players import (
     reads_record,
 )
 from cueplayer_tools.keeper.stand_still import work_of
-from cueplayer_tools.keeper.states import state_of
+from cueplayer_tools.keeper.states import name_of, state_of
+from cueplayer_tools.keeper.streams import Failure
 from cueplayer_tools.keeper.troubles import (
     KEEPER,
     LATELY,
@@ -30,6 +35,7 @@ from cueplayer_tools.keeper.troubles import (
     Trouble,
     read_story,
 )
+from cueplayer_tools.keeper.writers import NO_ANSWERS
 
 # The exit status of each kind of trouble, the worst first.
 STATUSES = {LIGHT: 3, RECORD: 4, SPARE: 5, KEEPER: 6, OTHER: 7}
@@ -55,8 +61,10 @@ class Health:
         self.trouble: list[Trouble] = []
         self.place: str | None = None
         if self.live is not None:
+            works = CatchingUp(self.spare or 0)
             self._look_at_live(self.live)
-            self._look_at_others()
+            self._look_at_spare(works)
+            self._look_at_keeper()
         story = read_story(folder)
         self.restarts, self.events = story.restarts, story.events
         if self.live is not None and story.lost is not None and self._is_lately(story.lost):
@@ -67,46 +75,72 @@ class Health:
             # The lines say why.
             self.trouble = [each for each in self.trouble if each.kind not in told_kinds]
         self.trouble += [] if self.has_ended else story.open.values()
+        if self.live is not None:
+            self._look_for_others()
 
     def _look_at_live(self, live: int) -> None:
         """Looks whether it plays: whether its record grows, and whether it answers."""
         size, work = self.folder.size("record"), work_of(live)
         until = time.monotonic() + _PATIENCE
-        self.place = ask(self.folder, "where")
+        # Without a FIFO nobody is asked.
+        with contextlib.suppress(Failure):
+            self.place = ask(self.folder, "where")
         while self.folder.size("record") == size and time.monotonic() < until:
             time.sleep(_LOOK_EVERY)
-        named = f"live (process {live})"
+        named, since = f"live (process {live})", _written(self.folder, "record")
         if not has_record_open(self.folder, live):
             told = f"the record is not the one that {named} writes: that has lost its name"
             self.trouble.append(Trouble(RECORD, None, told))
         elif self.folder.size("record") == size:
             if not state_of(live):
-                self.trouble.append(Trouble(LIGHT, None, f"{named} has just ended"))
+                self.trouble.append(Trouble(LIGHT, since, f"{named} has just ended"))
             elif state_of(live) in ("T", "t", "D") or work_of(live) == work:
-                self.trouble.append(Trouble(LIGHT, None, f"{named} stands still"))
+                self.trouble.append(Trouble(LIGHT, since, f"{named} stands still"))
             else:
                 told = f"the record does not grow, and {named} plays on"
-                self.trouble.append(Trouble(RECORD, None, told))
+                self.trouble.append(Trouble(RECORD, since, told))
         elif free_room(self.folder) < FULL:
             told = "the disk of the night is full: make room"
             self.trouble.append(Trouble(RECORD, None, told))
+        elif self.place is None and not self.folder.is_fifo():
+            gone = f"{self.folder.file('in')} is gone: `start` puts it back"
+            told = f"no line comes to {named}, as {gone}"
+            self.trouble.append(Trouble(OTHER, None, told))
         elif self.place is None and state_of(live):
-            self.trouble.append(Trouble(OTHER, None, f"{named} does not answer"))
+            told = why_unanswered(live) or f"{named} does not answer"
+            self.trouble.append(Trouble(OTHER, None, told))
 
-    def _look_at_others(self) -> None:
+    def _look_at_spare(self, works: CatchingUp) -> None:
         if self.spare is None:
             self.trouble.append(Trouble(SPARE, None, "no spare stands by"))
-        elif state_of(self.spare) in ("T", "t") or not reads_record(self.folder, self.spare):
-            why = "it is just started, or stands still"
-            told = f"the spare (process {self.spare}) does not read the record: {why}"
-            self.trouble.append(Trouble(SPARE, None, told))
-            self.spare = None
+            return
+        named, since = f"the spare (process {self.spare})", None
+        time.sleep(works.left())
+        if state_of(self.spare) in ("T", "t") or not reads_record(self.folder, self.spare):
+            told = f"{named} does not read the record: it is just started, or stands still"
+        elif works.is_so():
+            since = _written(self.folder, "spare")
+            told = f"{named} still takes up the record: if live dies now, the light waits for that"
+        else:
+            return
+        self.trouble.append(Trouble(SPARE, since, told))
+        self.spare = None
+
+    def _look_at_keeper(self) -> None:
         start = f"`cueplayer-night {self.folder.path} start` takes hold of it"
         if self.keeper is None:
             self.trouble.append(Trouble(KEEPER, None, f"nothing keeps it going: {start}"))
         elif state_of(self.keeper) in ("T", "t"):
             told = f"what keeps it going (process {self.keeper}) stands still"
             self.trouble.append(Trouble(KEEPER, None, f"{told}: `kill -CONT {self.keeper}`"))
+
+    def _look_for_others(self) -> None:
+        """Looks whether another console has the CID: a keeper that would tell it may be gone."""
+        for cid in cids_in(self.folder.words())[:1]:
+            found = await_free(cid, self.folder)
+            told = "" if found is None else told_of(found)
+            if told and told not in [each.text for each in self.trouble]:
+                self.trouble.append(Trouble(LIGHT, None, told))
 
     def _is_lately(self, moment: int) -> bool:
         found = _PLACE.fullmatch(self.place or "")
@@ -140,6 +174,16 @@ class Health:
             "trouble": [each._asdict() for each in self.trouble],
             "last": self.events,
         }
+
+
+def why_unanswered(live: int) -> str | None:
+    """Why no answers come; None where they would be written."""
+    writer = LivePipes(live).find_writer(REPLIES)
+    name = "" if writer is None else name_of(writer)
+    if not name.startswith(NO_ANSWERS):
+        return None
+    why = os.strerror(int(name[len(NO_ANSWERS) :]))
+    return f"answers cannot be written: {why}; make room: commands are carried out all the same"
 
 
 def free_room(folder: Folder) -> int:

@@ -6,6 +6,7 @@ import stat
 import time
 
 from cueplayer_tools.keeper.folder import Folder, whole_path
+from cueplayer_tools.keeper.lines import make_lines
 from cueplayer_tools.keeper.locks import await_lock, is_locked
 from cueplayer_tools.keeper.own_record import SECOND, forget_second_name
 from cueplayer_tools.keeper.players import find_live
@@ -114,11 +115,10 @@ def _close(folder: Folder) -> None:
 
 def make_files(folder: Folder) -> None:
     """Makes the files that a night is played by. They are nobody else's."""
-    if not folder.is_fifo():
-        try:
-            os.mkfifo(folder.file("in"))
-        except OSError as fault:
-            raise Failure(f"cannot make the FIFO {folder.file('in')}: {reason(fault)}") from fault
+    try:
+        make_lines(folder)
+    except OSError as fault:
+        raise Failure(f"cannot make the FIFO {folder.file('in')}: {reason(fault)}") from fault
     try:
         for name in ("replies", "lock"):
             with open(folder.file(name), "ab"):

@@ -17,6 +17,7 @@ from cueplayer_tools.keeper.folder_again import FolderAgain
 from cueplayer_tools.keeper.growth import Growth
 from cueplayer_tools.keeper.guard import Guard
 from cueplayer_tools.keeper.helpers import Helpers
+from cueplayer_tools.keeper.lines import follow
 from cueplayer_tools.keeper.locks import await_lock, take_lock, write_number
 from cueplayer_tools.keeper.own_record import forget_second_name
 from cueplayer_tools.keeper.players import find_keeper, find_live
@@ -77,7 +78,8 @@ class KeptNight:
         self.growth = Growth(folder.file("in"))
         found = find_live(folder)
         self.spare = Spare(folder, starter, self.tell)
-        self.guard = Guard(folder, starter, self.spare, self.unread, self.tell)
+        self.folder_again = FolderAgain(folder, starter.words, starter.lock)
+        self.guard = Guard(folder, starter, self.spare, self.folder_again, self.unread, self.tell)
         # Where the replies stood as `live` was started, whether it has begun, and whether there
         # was one that played.
         self.mark = 0
@@ -85,13 +87,10 @@ class KeptNight:
         # Why `live` did not begin, and what it said then; None and nothing where it did.
         self.trouble: str | None = None
         self.said: bytes | None = None
-        self.folder_again = FolderAgain(folder, starter.words)
         told = None if found is not None else take_update(folder, starter.words[0])
         self.live = self._start_live() if found is None else self._adopt(found)
         if told is not None:
             self.tell(told)
-        if found is not None:
-            self.folder_again.remember()
 
     def tell(self, text: str) -> None:
         """Tells what happened, in the replies and on standard error."""
@@ -119,6 +118,8 @@ class KeptNight:
         return Process(self.folder, number, False)
 
     def _start_live(self) -> Process:
+        if self.folder_again.make_lines():
+            self._watch_lines()
         self.mark, self.is_begun = self.folder.size("replies"), False
         self.pace.count()
         return self.starter.start("pid", known=self.said)
@@ -132,6 +133,7 @@ class KeptNight:
 
     def _has_begun(self) -> bool:
         if not self.is_begun:
+            self.mark = self.folder.place_in("replies", self.mark)
             told = b"\n" + self.folder.read("replies", self.mark, _MOST_TOLD)
             if b"\nend ends the night" in told:
                 self._begin()
@@ -143,7 +145,7 @@ class KeptNight:
         if self.trouble is not None:
             self.tell(f"live (process {self.live.number}) plays again")
         self.trouble = self.said = None
-        self.folder_again.remember()
+        self.folder_again.forget_show()
 
     def _wait(self) -> None:
         """Waits until a process has ended, or something was written: then it is looked at 30 ms
@@ -170,6 +172,8 @@ class KeptNight:
                 self.spare.keep()
                 self.guard.look(self.live, self.spare.refused is None or self.options.begins)
             self._wait()
+        if self.spare.process is not None:
+            follow(self.folder, self.spare.process.number)
         put_back = self.guard.put_back(self.live.number, self._make_folder_again)
         self.guard.let_go_on(self.live.number)
         status = self.live.status()
@@ -191,6 +195,9 @@ class KeptNight:
 
     def _make_folder_again(self) -> None:
         self.folder_again.make()
+        self._watch_lines()
+
+    def _watch_lines(self) -> None:
         self.growth.close()
         self.growth = Growth(self.folder.file("in"))
 
@@ -208,6 +215,7 @@ class KeptNight:
         goes_on = self._goes_on()
         self.live, self.mark = process, self.spare.mark
         self._write_number(process.number)
+        follow(self.folder, process.number)
         self.tell(f"{ending.words()}: the spare (process {process.number}) {goes_on}")
 
     def _goes_on(self) -> str:

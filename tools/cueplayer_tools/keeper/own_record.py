@@ -6,6 +6,7 @@ from the file itself, which a second name keeps, or as a copy once nothing write
 
 import contextlib
 import os
+import re
 from collections.abc import Callable
 
 from cueplayer_tools.keeper.aside import put_aside
@@ -17,6 +18,9 @@ SECOND = ".record"
 # How much room there is on a disk that is full, in bytes.
 FULL = 1 << 16
 _PART = 1 << 20
+_TICK = re.compile(rb"(?m)^(\d{1,15}) tick$")
+# More than a line has.
+_LINE = 256
 
 
 def _file_of(live: int) -> str:
@@ -71,6 +75,15 @@ class OwnRecord:
     def size(self) -> int:
         """How many bytes it has."""
         return self.folder.size("record") if self.file is None else os.fstat(self.file).st_size
+
+    def longest_pause(self, start: int) -> float:
+        """For how many seconds there was no tick behind its first bytes, at most."""
+        if self.file is None:
+            return 0.0
+        content = os.pread(self.file, _PART, max(start - _LINE, 0)).partition(b"\n")[2]
+        moments = [int(moment) for moment in _TICK.findall(content)]
+        pauses = (after - before for before, after in zip(moments, moments[1:]))
+        return max(pauses, default=0) / 1000
 
     def room(self) -> tuple[int, int]:
         """How many bytes are free on its disk, and how many are kept for it behind its end."""

@@ -2,6 +2,7 @@
 
 import contextlib
 import os
+import stat
 import time
 
 from cueplayer_tools.keeper.folder import Folder
@@ -20,14 +21,19 @@ def find_number(folder: Folder, name: str) -> int | None:
 
 
 def is_live(folder: Folder, number: int | None) -> bool:
-    """Whether this process plays the night, or stands by: its standard input is the FIFO."""
+    """Whether this process plays the night, or stands by: its standard input is the FIFO. That may
+    have lost its name."""
     if number is None:
         return False
+    own, path = f"/proc/{number}/fd/0", folder.file("in")
     try:
-        there, fifo = os.stat(f"/proc/{number}/fd/0"), os.stat(folder.file("in"))
+        there = os.stat(own)
+        if folder.is_fifo():
+            return os.path.samestat(there, os.stat(path))
+        gone = f"{os.path.realpath(folder.path)}/in (deleted)"
+        return stat.S_ISFIFO(there.st_mode) and os.readlink(own) == gone
     except OSError:
         return False
-    return os.path.samestat(there, fifo)
 
 
 def _check_seen(folder: Folder, numbers: list[int | None]) -> None:

@@ -6,7 +6,7 @@ import signal
 import time
 from collections.abc import Iterator
 
-from cueplayer_tools.keeper.consoles import await_free
+from cueplayer_tools.keeper.consoles import await_free, cids_in
 from cueplayer_tools.keeper.folder import Folder, open_file
 from cueplayer_tools.keeper.locks import write_number
 from cueplayer_tools.keeper.pipes import Pipes
@@ -262,10 +262,7 @@ class Starter:
 
     def _refuse_second(self) -> None:
         """Ends this child, as `live` ends by its lock, where another console has its CID."""
-        places = [at for at, word in enumerate(self.words) if word.partition("=")[0] == "--cid"]
-        for at in places:
-            _, joined, value = self.words[at].partition("=")
-            cid = value if joined else "".join(self.words[at + 1 : at + 2])
+        for cid in cids_in(self.words):
             found = await_free(cid, self.folder) if cid else None
             if found is not None:
                 told = "another console on this machine sends under this CID: process"

@@ -7,6 +7,7 @@ import signal
 import time
 from collections.abc import Callable
 
+from cueplayer_tools.keeper.catching_up import CatchingUp
 from cueplayer_tools.keeper.endings import Pace
 from cueplayer_tools.keeper.folder import Folder
 from cueplayer_tools.keeper.locks import find_holder, is_locked
@@ -20,6 +21,10 @@ _GOES_ON = re.compile(rb"^record: .*, goes on at ", re.MULTILINE)
 # For how long a spare may take to go on once nobody else has the record, in seconds; from when on
 # it is told that somebody has.
 _PATIENCE, _TOLD = 3.0, 1.0
+# For how long it may take up a record that is long, in seconds: a start would begin with that anew.
+_LONGEST = 120.0
+# In so many seconds there is a tick in the record of one that plays.
+_SOME_TICKS = 0.2
 # What the system says of a process that was stopped or is traced, and how long one may stay so that
 # is to go on, in seconds.
 _STOPPED, _LONGEST_STOP = ("T", "t"), 0.3
@@ -104,6 +109,7 @@ class Spare:
     def _has_told(self) -> bool:
         """Whether it told that it goes on. `live` has written to the same replies up to its
         end."""
+        self.mark = self.folder.place_in("replies", self.mark)
         while part := self.folder.read("replies", self.mark, _PART):
             if _GOES_ON.search(part):
                 return True
@@ -111,6 +117,13 @@ class Spare:
                 break
             self.mark += _PART - _OVERLAP
         return False
+
+    def _plays(self, number: int) -> bool:
+        """Whether the record grows under its lock: what it told may be gone with the replies."""
+        size = self.folder.size("record")
+        time.sleep(_SOME_TICKS)
+        is_its = find_holder(self.folder.file("record")) == number
+        return is_its and self.folder.size("record") > size
 
     def _is_held_by_another(self, number: int) -> bool:
         """Whether the record's lock is not this spare's. A process that is gone may not be named
@@ -131,12 +144,15 @@ class Spare:
 
     def await_light(self, gone: int) -> bool:
         """Waits until it goes on with the night, or has ended as the night has; whether it goes
-        on. One that does neither is ended; but what wrote the record for a `live` that is gone may
-        wait for the disk, and so does the spare."""
+        on. One that does neither is ended, unless it still takes up the record; but what wrote that
+        for a `live` that is gone may wait for the disk, and so does the spare."""
         began = until = time.monotonic()
         is_told = False
+        works = CatchingUp(0 if self.process is None else self.process.number)
         while self.process is not None and time.monotonic() < until + _PATIENCE:
             has_ended = self.process.has_ended()
+            if works.was_so() and time.monotonic() < began + _LONGEST:
+                until = time.monotonic()
             if self._has_told():
                 # The next one stands by at once.
                 self.pace = Pace()
@@ -152,6 +168,9 @@ class Spare:
                     told = "the record is still written for a live that is gone"
                     self.tell(f"{told}: the disk stalls, or is slow; the spare waits for it")
             wait_for(self.process.descriptors(), LOOK_EVERY / 2)
+        else:
+            if self.process is not None and self._plays(self.process.number):
+                return True
         self.put_down()
         return False
 

@@ -66,7 +66,10 @@ class Watch:
         self.stopped = None if state != "T" or is_own_stall else self.stopped or now
         has_moved = has_grown or (work != self.work and state not in ("T", "t", "D"))
         self.ticks = has_moved and self.size >= 0
-        self.late = now - self.moved if has_moved and not is_own_stall else 0.0
+        self.late = now - self.moved if has_moved else 0.0
+        if is_own_stall:
+            # What was not looked at stands in the record.
+            self.late = self.record.longest_pause(self.size) if 0 <= self.size < size else 0.0
         if has_grown or is_own_stall:
             self.grown = now
         if has_moved or is_own_stall:

@@ -40,6 +40,7 @@ _OPENS = [
     (LIGHT, "start", rb"the record is still written for a live that is gone()"),
     (LIGHT, "start", rb"process \d+ has the lock of the record(): end that one"),
     (LIGHT, "start", rb".*: cannot put .* aside: ()"),
+    (LIGHT, "cid", rb"another console sends under this CID()"),
     (LIGHT, "still", rb"live \(process \d+\) stands still()"),
     (RECORD, "grows", rb"the record does not grow, and live()"),
     (RECORD, "name", rb"the record has lost its name()"),
@@ -55,6 +56,7 @@ _CLOSES = [
     ("answer", rb"(\S+) answers$"),
     ("late", rb"record: (?:whole again|goes on, )()"),
     ("still", rb"live \(process \d+\) (?:runs again|plays again)()|live .* goes on where it()"),
+    ("cid", rb"no other console sends under this CID any more()"),
     ("grows", rb"the record grows again()$"),
     ("name", rb"the record has its name again()$|.*the record is put back()$"),
     ("room", rb"the disk of the night has room again()$"),
@@ -128,7 +130,7 @@ class Story:
         if _PLAYS.match(line):
             self._forget("start", "still")
         if _KEEPS.match(text):
-            self._forget("start", "still", "spare", "grows", "update", "name", "cut", "room")
+            self._forget("start", "still", "spare", "grows", "update", "name", "cut", "room", "cid")
         if _FROM.match(text):
             self._forget("route")
         if b"; the record is kept as record-" in text or b"its record is kept as record-" in text:

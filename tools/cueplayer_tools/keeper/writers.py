@@ -42,6 +42,8 @@ _NO_SPLICE = (errno.EINVAL, errno.ENOSYS, errno.EOPNOTSUPP)
 # What the writer of a record is called in the list of processes, and what that begins with while
 # the system refuses to write, with the number of its reason behind it.
 _NAME, NO_ROOM = "record-writer", "record-wait-"
+# The same of the one of the replies.
+_REPLIES, NO_ANSWERS = "replies-writer", "replies-w-"
 
 
 def _call_self(name: str) -> None:
@@ -229,24 +231,32 @@ class RepliesWriter:
 
     def __init__(self, folder: Folder) -> None:
         self.folder, self.reserve = folder, Reserve(_REPLIES_RESERVE)
+        self.fault: int | None = None
+
+    def _note_room(self, fault: int | None) -> None:
+        if fault != self.fault:
+            self.fault = fault
+            _call_self(_REPLIES if fault is None else f"{NO_ANSWERS}{fault}")
 
     def _write(self, content: bytes) -> bytes:
         """Writes it; what is left of it."""
         try:
             file = open_file(self.folder.file("replies"), os.O_WRONLY | os.O_APPEND | os.O_CREAT)
-        except OSError:
+        except OSError as fault:
+            self._note_room(fault.errno)
             return content
         try:
             content = content[os.write(file, content) :]
+            self._note_room(None)
             self.reserve.keep(file)
-        except OSError:
-            pass
+        except OSError as fault:
+            self._note_room(fault.errno)
         finally:
             os.close(file)
         return content
 
     def run(self) -> None:
-        _call_self("replies-writer")
+        _call_self(_REPLIES)
         held, ended = b"", 0.0
         while not ended or (held and time.monotonic() < ended + _PATIENCE):
             if held:

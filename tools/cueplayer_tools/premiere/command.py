@@ -34,6 +34,9 @@ from cueplayer_tools.targets import target
 from cueplayer_tools.teller import Teller, leave_all
 from cueplayer_tools.tool_parser import ToolParser
 
+# What is said of a night whose record cannot be taken up, with the cue in which it goes on.
+_STARTS_AGAIN = ": the night starts again "
+
 ABOUT = """\
 Plays a show tonight: checks it, or converts another console's export, begins a night with a spare
 and a record, and serves a page to play it from by a PIN."""
@@ -186,7 +189,9 @@ def _go_on(night: Premiere) -> None:
             raise Refused("nothing was sent: --night FOLDER names a folder for a new night")
     _hold_interrupts()
     if not night.folder.is_kept():
-        night.start()
+        for line in night.start():
+            if _STARTS_AGAIN in line:
+                _tell(line)
     night.await_live()
 
 

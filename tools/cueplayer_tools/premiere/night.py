@@ -95,7 +95,8 @@ class Premiere:
         """Begins a night with these words of `live`, or goes on with the one in the folder; what is
         said of it. Refused with the reason where nothing plays then; a night that was to go on
         begins by itself once its network card is there."""
-        status, lines = self._run("start", *words, "--background")
+        # Who plays a premiere is not to look for words while the stage is dark.
+        status, lines = self._run("start", *words, "--if-refused", "begin", "--background")
         is_waiting = any(_WAITS in line for line in lines)
         if not status and not is_waiting:
             return lines
