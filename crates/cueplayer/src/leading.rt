@@ -117,13 +117,10 @@ impl<'a> Following<'a> {
         bill: &Playbill<'_, '_>,
         main: MainNight<'_>,
     ) -> Result<(), Failure> {
-        let Ok(network) = self.night.network.shared().try_borrow() else {
-            return Ok(());
-        };
         let lines = StartLines {
             night: bill.night,
             show: bill.show,
-            network: &network,
+            network: self.night.network.shared(),
             recorded: new_recording(&bill.words),
             followed: Some(main),
         };

@@ -125,7 +125,7 @@ impl<'a> LiveDevices<'a> {
         let lines = StartLines {
             night: bill.night,
             show: bill.show,
-            network: &*network.own(),
+            network: network.shared(),
             recorded,
             followed: None,
         };

@@ -37,9 +37,4 @@ impl LockedNetwork {
     pub fn shared(&self) -> &RefCell<Network> {
         &self.network
     }
-
-    /// The same, while nobody shares it.
-    pub fn own(&mut self) -> &mut Network {
-        self.network.get_mut()
-    }
 }

@@ -4,6 +4,7 @@ use cmd_faults::RunFault;
 use cmd_words::Night;
 use night_lines::{MainNight, Recording};
 use night_opening::{NightAtStart, is_interruptible, night_start_lines};
+use std::cell::RefCell;
 use std::env;
 use system_devices::Network;
 
@@ -15,24 +16,27 @@ const INTERRUPTS: &str = "CUEPLAYER_INTERRUPTS";
 pub struct StartLines<'w, 's, 'n> {
     pub night: &'w Night,
     pub show: &'s [u8],
-    pub network: &'n Network,
+    pub network: &'n RefCell<Network>,
     pub recorded: Option<Recording<'w>>,
     pub followed: Option<MainNight<'n>>,
 }
 
 impl StartLines<'_, '_, '_> {
     /// Tells what the night plays, where it is sent, where it is recorded, whom it follows and what
-    /// ends it.
+    /// ends it; nothing while the network is borrowed to change.
     ///
     /// # Errors
     ///
     /// `Show`, `Base` or `Memory`. Then nothing is told.
     pub fn tell(&self, rt: &HostRuntime, screen: &mut Screen) -> Result<(), RunFault> {
-        let found = find_network(rt, self.network, self.night.interface.is_some());
+        let Ok(network) = self.network.try_borrow() else {
+            return Ok(());
+        };
+        let found = find_network(rt, &network, self.night.interface.is_some());
         let night = NightAtStart {
             night: self.night,
             show: self.show,
-            paths: self.network.paths(),
+            paths: network.paths(),
             recording: self.recorded,
             main: self.followed,
             is_interruptible: is_interruptible(&env::var(rt, INTERRUPTS))?,
