@@ -37,9 +37,9 @@ module _ (targets : List Target) (universe place : ℕ) where
       let more = streams packets (All-tail (IsToAll targets) packet packets all) inside in
       by_test (nat_eq packet.universe universe)
       (λ q. rw q (ap (λ own. own ∷ bytes_at universe place packets)
-          (own_bytes packet is (subst (λ u. place < length (addresses_of u targets))
-          (sym (eqb-true packet.universe universe q)) inside))
-          ∙ ap (λ others. packet.bytes ∷ others) more))
+      (own_bytes packet is (subst (λ u. place < length (addresses_of u targets))
+      (sym (eqb-true packet.universe universe q)) inside))
+      ∙ ap (λ others. packet.bytes ∷ others) more))
       (λ q. rw q more)
 
 pub addresses_get : AddressesGetTheStream
