@@ -85,7 +85,6 @@ IN_THE_PROGRAM = {
     "read_words": "test_words",
     "read_or_explain": "test_words",
     "lock_path": "test_live",
-    "take_cid_lock": "test_live",
     "check_fit": "test_targets",
     "name_on": "test_live",
     "process_in_list": "test_record_in_use",
@@ -101,7 +100,6 @@ IN_THE_PROGRAM = {
     "open_night": "test_live",
     "start_lines": "test_live",
     "night_start_lines": "test_live",
-    "suitable_show": "test_targets",
 }
 # Calls that take no memory once something is open: tests of them that ask for as much as one that
 # only opens it.
